@@ -1,13 +1,20 @@
-// A library with one function.
+//! Where files are read and bytes are written: two traits, a fake of each in memory, and the adapters
+//! over real files and standard output.
 #![tactic(auto)]
 
-ghost use Rattle.std.specs.Prelude.{◌≡◌};
-ghost use Rattle.zl_outside.specs.Echo.{echo_of};
+mod error;
+mod failures;
+mod file_shelf;
+mod mem_shelf;
+mod mem_sink;
+mod shelf;
+mod sink;
+mod std_sink;
 
-// The `ensures` clause is the contract: what `echo` returns is `echo_of` of its argument, a definition
-// in `specs/Echo.antt`, which a caller's clause can cite too.
-pub fn echo(x: usize) -> usize
-    ensures { result ≡ echo_of x }
-{
-    x
-}
+pub use error::{Failed, Memory, ReadAnswer};
+pub use file_shelf::FileShelf;
+pub use mem_shelf::MemShelf;
+pub use mem_sink::MemSink;
+pub use shelf::Shelf;
+pub use sink::Sink;
+pub use std_sink::StdSink;

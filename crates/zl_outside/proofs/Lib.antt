@@ -1,0 +1,4 @@
+pub mod CountLemmas
+mod KnownReads
+mod SinkLemmas
+pub mod WriteLemmas
