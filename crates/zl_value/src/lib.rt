@@ -1,13 +1,37 @@
-// A library with one function.
+//! Numbers as exact fractions in a width of 64 bits, the values of a program, and positions in its text.
 #![tactic(auto)]
 
-ghost use Rattle.std.specs.Prelude.{◌≡◌};
-ghost use Rattle.zl_value.specs.Echo.{echo_of};
+mod arith;
+mod decimal;
+mod frac;
+mod gcd;
+pub mod laws;
+pub mod lowest;
+mod op;
+mod position;
+mod ratio_text;
+mod rule;
+mod script;
+mod sequence;
+mod significand;
+mod text;
+mod thin;
+mod value;
+mod value_text;
 
-// The `ensures` clause is the contract: what `echo` returns is `echo_of` of its argument, a definition
-// in `specs/Echo.antt`, which a caller's clause can cite too.
-pub fn echo(x: usize) -> usize
-    ensures { result ≡ echo_of x }
-{
-    x
-}
+pub use arith::Arith;
+pub use decimal::read_decimal;
+pub use frac::Frac;
+pub use op::Op;
+pub use position::Pos;
+pub use ratio_text::read_ratio;
+pub use rule::{Refusal, Rule};
+pub use script::{Ending, Input, Mark, Output, Script, ScriptLine, Set};
+pub use sequence::Sequence;
+pub use text::Text;
+pub use thin::Thin;
+pub use value::{Fault, Ty, Value};
+pub use value_text::{
+    LONGEST_VALUE, print_number, print_position, print_value, write_bytes, write_number,
+    write_value,
+};

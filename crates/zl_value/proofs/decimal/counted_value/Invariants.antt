@@ -1,0 +1,7 @@
+use Rattle.std.proofs.Common.{◌≡◌, min, take}
+use Rattle.std.specs.Str.Parse.{digits_value}
+use Rattle.zl_value.specs.Significand.{most}
+use Rattle.zl_value.proofs.decimal.counted_value.Given as goal
+
+abbrev pub invariant-loop-digit : goal.invariant-loop-digit
+invariant-loop-digit l = l.number ≡ min (digits_value 10 (take l.digit-index l.digits)) most
