@@ -1,0 +1,13 @@
+pub mod AnswerLemmas
+pub mod AsciiLemmas
+pub mod ClassLemmas
+pub mod CommentLemmas
+pub mod DigitLemmas
+pub mod FormLemmas
+pub mod FrontLemmas
+pub mod LoopLemmas
+pub mod NameLemmas
+pub mod NumberLemmas
+pub mod PlaceLemmas
+pub mod ReadingLemmas
+pub mod StepLemmas

@@ -1,0 +1,10 @@
+pub mod Answers
+pub mod Comments
+pub mod Facts
+pub mod Lengths
+pub mod Names
+pub mod Numbers
+pub mod Positions
+pub mod Signs
+pub mod Tokens
+pub mod Words

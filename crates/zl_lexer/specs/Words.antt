@@ -1,0 +1,23 @@
+-- The reserved words. After Zélus.
+use Rattle.std.specs.Prelude.{ℕ, List, [], ◌∷◌, Option, codes}
+use Rattle.std.specs.Map.{lookup}
+use Rattle.std.specs.Str.{bytes_eq}
+use Rattle.zl_lexer.specs.declared.token.Word.{Word}
+use Rattle.zl_lexer.specs.declared.token.Word.TheVariants as word
+
+abbrev pub words : List (List ℕ × Word)
+words =
+    (codes "let", word.Let) ∷ (codes "node", word.Node) ∷ (codes "hybrid", word.Hybrid) ∷ (codes "where", word.Where)
+    ∷ (codes "rec", word.Rec) ∷ (codes "and", word.And) ∷ (codes "der", word.Der) ∷ (codes "init", word.Init)
+    ∷ (codes "reset", word.Reset) ∷ (codes "present", word.Present) ∷ (codes "automaton", word.Automaton)
+    ∷ (codes "do", word.Do) ∷ (codes "done", word.Done) ∷ (codes "until", word.Until) ∷ (codes "unless", word.Unless)
+    ∷ (codes "then", word.Then) ∷ (codes "continue", word.Continue) ∷ (codes "else", word.Else)
+    ∷ (codes "end", word.End) ∷ (codes "every", word.Every) ∷ (codes "local", word.Local) ∷ (codes "in", word.In)
+    ∷ (codes "if", word.If) ∷ (codes "last", word.Last) ∷ (codes "pre", word.Pre) ∷ (codes "fby", word.Fby)
+    ∷ (codes "up", word.Up) ∷ (codes "not", word.Not) ∷ (codes "mod", word.Mod) ∷ (codes "or", word.Or)
+    ∷ (codes "true", word.True) ∷ (codes "false", word.False) ∷ (codes "bool", word.Bool) ∷ (codes "int", word.Int)
+    ∷ (codes "float", word.Float) ∷ (codes "period", word.Period) ∷ []
+
+-- the word that a whole text is
+abbrev pub word_of : List ℕ → Option Word
+word_of text = lookup (bytes_eq text) words
