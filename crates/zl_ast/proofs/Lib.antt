@@ -1,0 +1,15 @@
+pub mod Sublists
+pub mod Passages
+pub mod SpotsOf
+pub mod PassagesOfExpressions
+pub mod Readers
+pub mod FirstTokens
+pub mod AgreeingExpressions
+pub mod PassagesOfEquations
+pub mod AgreeingEquations
+pub mod AgreeingDeclarations
+pub mod Lift
+pub mod TreeLaws
+pub mod WorkedExamples
+pub mod Shallower
+pub mod Faults

@@ -1,0 +1,13 @@
+pub mod Phrases
+pub mod Operators
+pub mod Expressions
+pub mod Equations
+pub mod Declarations
+pub mod Spots
+pub mod Reading
+pub mod ReadingExpressions
+pub mod ReadingEquations
+pub mod ReadingDeclarations
+pub mod Parsed
+pub mod TreeLaws
+pub mod Examples

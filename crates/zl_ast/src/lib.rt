@@ -1,0 +1,19 @@
+//! The tree of a program, and the grammar: which lists of tokens have which tree.
+#![tactic(auto)]
+
+mod eqn;
+mod expr;
+pub mod laws;
+mod name;
+mod operator;
+mod program;
+mod scope;
+#[cfg(test)]
+mod tests;
+
+pub use eqn::{Arm, Body, Cond, Eqn, Move, ResetArm, State, Up};
+pub use expr::{Expr, Link};
+pub use name::Name;
+pub use operator::{FlowOp, Infix, Prefix};
+pub use program::{Decl, DeclKind, Param, Program};
+pub use scope::{Scopes, Typing, VarClass, VarInfo};
