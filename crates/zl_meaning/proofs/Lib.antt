@@ -1,0 +1,10 @@
+pub mod Compute
+pub mod Congruence
+pub mod Lines
+pub mod OneFine
+pub mod OneRun
+pub mod OneTable
+pub mod OneTrace
+pub mod Ranks
+pub mod Rows
+pub mod SomeRun

@@ -1,0 +1,14 @@
+//! The flat form of a program, and the meaning of its runs in superdense time, as definitions.
+#![tactic(auto)]
+
+mod block;
+mod flat;
+pub mod laws;
+mod occurrence;
+mod place;
+pub mod worked;
+
+pub use block::{Auto, AutoMove, Block, BlockKind, Choice};
+pub use flat::Flat;
+pub use occurrence::{Form, Occ, SiteInfo};
+pub use place::{Definer, DerArm, PlaceInfo};
