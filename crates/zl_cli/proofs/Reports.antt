@@ -1,0 +1,121 @@
+-- How the steps of a call make its report.
+use Rattle.std.proofs.Common.{◌≡◌, ◌⊎◌, ℕ, List, [], ◌∷◌, ◌++◌, ◌<◌, ◌≤◌, true, length, map, get_or, arith, codes, Option, Some, None, Result, Ok, Err, refl, ap, sym, subst, ◌∙◌, inl, inr}
+use Rattle.std.specs.List.{concat}
+use Rattle.std.specs.Str.{bytes_eq}
+use Rattle.std.proofs.lemmas.Slice.Eq.{bytes_eq-Decides}
+use Rattle.zl_outside.specs.FileMap.{FileMap, HoldsFile}
+use Rattle.zl_outside.specs.Pieces.{StandsFor}
+use Rattle.zl_value.specs.Fraction.{Fraction}
+use Rattle.zl_value.specs.declared.thin.Thin.{Thin}
+use Rattle.zl_value.specs.declared.rule.Rule.{Rule}
+use Rattle.zl_value.specs.declared.script.Ending.{Ending}
+use Rattle.zl_value.specs.declared.script.Ending.TheVariants.{Horizon, Bound, Empty as NoValue, Fault as EndsInFault}
+use Rattle.zl_driver.specs.ThinRun.{thin_lines, thin_end}
+use Rattle.zl_cli.specs.declared.load.Stop.{Stop}
+use Rattle.zl_cli.specs.declared.load.Stop.TheVariants as stop
+use Rattle.zl_cli.specs.declared.status.Status.{Status}
+use Rattle.zl_cli.specs.declared.status.Status.TheVariants as status
+use Rattle.zl_cli.specs.Files.{GivesProgram, LoadsProgram, LoadsHorizon, file_start, read_cap}
+use Rattle.zl_cli.specs.Report.{Call, run_call, IsReport, IsAnswer, RunsTo, AllRead, Tells, FileIs, run_status}
+use Rattle.zl_cli.specs.Steps.{TellsStop, TellsRun}
+use Rattle.zl_cli.specs.Texts.{refusal_line, script_line, read_fault_line, no_memory_line}
+
+-- the file gave nothing to go on with
+pub file_stopped : (told : Option FileMap) (before now : List (List ℕ)) (file script : List ℕ)
+    (was is : StandsFor) (faults_was faults_is : ℕ) (result : Status) (why : Stop)
+    → LoadsProgram told before now file (Err why) → TellsStop was is faults_was faults_is why result
+    → IsReport (run_call told before now file script) was is faults_was faults_is result
+file_stopped told before now file script was is fw fi result stop.Unread loads tells =
+    (status.ReadFault, read_fault_line, (refl, (file, script, refl, inl loads)), tells)
+file_stopped told before now file script was is fw fi result (stop.Refused rule) loads (inl tells) =
+    (status.RefusedFile, refusal_line rule file_start, (loads.0, (file, script, rule, refl, loads.1, refl)), tells)
+file_stopped told before now file script was is fw fi result (stop.Refused rule) loads (inr tells) =
+    (status.NoMemory, no_memory_line, (loads.0, (file, script, refl), refl), tells)
+file_stopped told before now file script was is fw fi result stop.Memory loads tells =
+    (status.NoMemory, no_memory_line, (loads, (file, script, refl), refl), tells)
+
+-- there was no memory
+pub ran_out : (told : Option FileMap) (before now : List (List ℕ)) (file script : List ℕ)
+    (was is : StandsFor) (faults_was faults_is : ℕ) (result : Status)
+    → now ≡ before → Tells was is faults_was faults_is status.NoMemory no_memory_line result
+    → IsReport (run_call told before now file script) was is faults_was faults_is result
+ran_out told before now file script was is fw fi result read tells =
+    (status.NoMemory, no_memory_line, (read, (file, script, refl), refl), tells)
+
+-- the script could not be read, for another reason than a refusal
+pub script_stopped : (told : Option FileMap) (before now : List (List ℕ)) (file script : List ℕ)
+    (was is : StandsFor) (faults_was faults_is : ℕ) (result : Status) (thin : Thin) (why : Stop)
+    → FileIs (run_call told before now file script) file thin
+    → LoadsHorizon told before now script (Err why) → TellsStop was is faults_was faults_is why result
+    → ((rule : Rule) → why ≡ stop.Refused rule → ⊥)
+    → IsReport (run_call told before now file script) was is faults_was faults_is result
+script_stopped told before now file script was is fw fi result thin stop.Unread holds loads tells other =
+    (status.ReadFault, read_fault_line, (refl, (file, script, refl, inr (thin, holds, loads))), tells)
+script_stopped told before now file script was is fw fi result thin (stop.Refused rule) holds loads tells other =
+    absurd (other rule refl)
+script_stopped told before now file script was is fw fi result thin stop.Memory holds loads tells other =
+    ran_out told before now file script was is fw fi result loads tells
+
+-- the script is refused
+pub script_refused : (told : Option FileMap) (before now : List (List ℕ)) (file script : List ℕ)
+    (was is : StandsFor) (faults_was faults_is : ℕ) (result : Status) (thin : Thin) (rule : Rule)
+    → FileIs (run_call told before now file script) file thin
+    → LoadsHorizon told before now script (Err (stop.Refused rule))
+    → Tells was is faults_was faults_is status.RefusedScript script_line result
+    → IsReport (run_call told before now file script) was is faults_was faults_is result
+script_refused told before now file script was is fw fi result thin rule holds loads tells =
+    (status.RefusedScript, script_line, (loads.0, (file, script, thin, refl, holds, loads.1, refl)), tells)
+
+pub answer_of_run : (call : Call) (end : Ending) (text : List ℕ) → AllRead call → RunsTo call (run_status end) text → IsAnswer call (run_status end) text
+answer_of_run call Horizon text read runs = (read, runs)
+answer_of_run call Bound text read runs = (read, runs)
+answer_of_run call NoValue text read runs = (read, runs)
+answer_of_run call (EndsInFault fault time mark) text read runs = (read, runs)
+
+-- the program was run
+pub ran : (told : Option FileMap) (before now : List (List ℕ)) (file script : List ℕ)
+    (was is : StandsFor) (faults_was faults_is : ℕ) (result : Status) (thin : Thin) (horizon : Fraction)
+    → FileIs (run_call told before now file script) file thin
+    → LoadsHorizon told before now script (Ok horizon)
+    → TellsRun was is faults_was faults_is thin horizon result
+    → IsReport (run_call told before now file script) was is faults_was faults_is result
+ran told before now file script was is fw fi result thin horizon holds loads (inl tells) = (
+  run_status (thin_end thin horizon),
+  concat (thin_lines thin horizon),
+  answer_of_run (run_call told before now file script) (thin_end thin horizon) (concat (thin_lines thin horizon)) loads.0
+      (file, script, thin, horizon, refl, holds, loads.1, refl, refl),
+  tells,
+)
+ran told before now file script was is fw fi result thin horizon holds loads (inr tells) =
+    ran_out told before now file script was is fw fi result loads.0 tells
+
+-- what was read of a script after other reads that did not fail
+pub horizon_as : (told told' : Option FileMap) (before mid now : List (List ℕ)) (name : List ℕ) (r : Result Fraction Stop)
+    → told' ≡ told → mid ≡ before → LoadsHorizon told' mid now name r → LoadsHorizon told before now name r
+horizon_as told told' before mid now name r same read loads =
+    subst (λ (files : Option FileMap). LoadsHorizon files before now name r) same
+    (subst (λ (failed : List (List ℕ)). LoadsHorizon told' failed now name r) read loads)
+
+-- what the bytes of a file answer is what reading them does
+pub loads_program : (told : Option FileMap) (before now : List (List ℕ)) (name bytes : List ℕ) (r : Result Thin Stop)
+    → now ≡ before → HoldsFile told name read_cap bytes → GivesProgram bytes r → LoadsProgram told before now name r
+loads_program told before now name bytes (Ok thin) read holds gives = (read, (bytes, holds, gives))
+loads_program told before now name bytes (Err (stop.Refused rule)) read holds gives = (read, (bytes, holds, gives))
+loads_program told before now name bytes (Err stop.Unread) read holds gives = absurd gives
+loads_program told before now name bytes (Err stop.Memory) read holds gives = read
+
+-- a list of three words is these
+pub three_words : {X : Type 0} (f : X → List ℕ) (words : List X) (a b c : X) → 3 ≤ length words → length words < 4
+    → a ≡ get_or words 0 a → b ≡ get_or words 1 b → c ≡ get_or words 2 c → map f words ≡ f a ∷ f b ∷ f c ∷ []
+three_words f [] a b c least most p q r = absurd (omega arith)
+three_words f (x ∷ []) a b c least most p q r = absurd (omega arith)
+three_words f (x ∷ y ∷ []) a b c least most p q r = absurd (omega arith)
+three_words f (x ∷ y ∷ z ∷ []) a b c least most p q r = cc
+three_words f (x ∷ y ∷ z ∷ w ∷ ws) a b c least most p q r = absurd (omega arith)
+
+-- three words of which the first is `run`
+pub run_words : {X : Type 0} (f : X → List ℕ) (words : List X) (a b c : X) (verb file script : List ℕ)
+    → map f words ≡ f a ∷ f b ∷ f c ∷ [] → verb ≡ f a → bytes_eq verb (codes "run") ≡ true → file ≡ f b → script ≡ f c
+    → map f words ≡ codes "run" ∷ file ∷ script ∷ []
+run_words f words a b c verb file script all first is second third =
+    let e : verb ≡ codes "run" = (bytes_eq-Decides verb (codes "run")).0 is in cc

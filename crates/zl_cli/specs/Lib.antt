@@ -1,0 +1,5 @@
+pub mod Files
+pub mod Report
+pub mod StatusNumber
+pub mod Steps
+pub mod Texts

@@ -1,0 +1,150 @@
+use crate::status::Status;
+use crate::zpc::zpc;
+use std::alloc::Global;
+use std::process::Abort;
+use zl_outside::{MemShelf, MemSink};
+
+const RAMP: &[u8] = b"let hybrid main() = x where rec der x = 1.0 init 0.0";
+
+const WIDEST: &[u8] = b"let hybrid main() = x where rec der x = 9223372036854775807.0 init 0.0";
+
+const USAGE: &[u8] =
+    b"usage: zpc check FILE, code FILE, run FILE SCRIPT, exec CODE SCRIPT, gen SEED\n";
+
+/// Calls the program on words, with a file FILE and a script SCRIPT, and a sink whose put of this number fails.
+fn call(
+    rt: &impl Abort,
+    alloc: Global,
+    words: &[&str],
+    file: &[u8],
+    script: &[u8],
+    failing: u64,
+) -> (Status, MemSink) {
+    let mut given = Vec::new(alloc);
+    for word in words {
+        let word = String::from_str(alloc, word).expect(rt, "there is memory");
+        given.push(word).expect(rt, "there is memory");
+    }
+    let mut shelf = MemShelf::new(alloc);
+    shelf.add("FILE", file).expect(rt, "there is memory");
+    shelf.add("SCRIPT", script).expect(rt, "there is memory");
+    let mut sink = MemSink::new(alloc, 1000).expect(rt, "there is memory");
+    sink.fail_at(failing).expect(rt, "there is memory");
+    let status = zpc(alloc, &given, &mut shelf, &mut sink);
+    (status, sink)
+}
+
+fn assert_run(
+    rt: &impl Abort,
+    alloc: Global,
+    file: &[u8],
+    script: &[u8],
+    status: Status,
+    text: &[u8],
+) {
+    let (ended, sink) = call(rt, alloc, &["run", "FILE", "SCRIPT"], file, script, 0);
+    assert_eq!(rt; ended, status);
+    assert_eq!(rt; sink.bytes(), text);
+}
+
+#[test]
+fn ramp_runs_to_its_horizon(rt: HostRuntime) {
+    let text = b"0 #0 x=0\n3/2 - x=3/2\nend horizon\n";
+    assert_run(&rt, rt.alloc(), RAMP, b"horizon 3/2\n", Status::Done, text);
+}
+
+#[test]
+fn nothing_flows_at_horizon_zero(rt: HostRuntime) {
+    assert_run(
+        &rt,
+        rt.alloc(),
+        RAMP,
+        b"horizon 0\n",
+        Status::Done,
+        b"0 #0 x=0\nend horizon\n",
+    );
+}
+
+#[test]
+fn widest_slope_fits_for_one_unit(rt: HostRuntime) {
+    let text = b"0 #0 x=0\n1 - x=9223372036854775807\nend horizon\n";
+    assert_run(&rt, rt.alloc(), WIDEST, b"horizon 1\n", Status::Done, text);
+}
+
+#[test]
+fn increment_past_the_width_is_a_fault(rt: HostRuntime) {
+    let text = b"0 #0 x=0\nfault range 0 ~ 1:37\n";
+    assert_run(
+        &rt,
+        rt.alloc(),
+        WIDEST,
+        b"horizon 2\n",
+        Status::ArithFault,
+        text,
+    );
+}
+
+#[test]
+fn other_forms_are_refused(rt: HostRuntime) {
+    assert_run(
+        &rt,
+        rt.alloc(),
+        b"let",
+        b"horizon 1\n",
+        Status::RefusedFile,
+        b"refused unbuilt 1:1\n",
+    );
+    assert_run(
+        &rt,
+        rt.alloc(),
+        RAMP,
+        b"# c\n",
+        Status::RefusedScript,
+        b"refused script unbuilt 1\n",
+    );
+}
+
+#[test]
+fn words_without_a_form_get_the_usage(rt: HostRuntime) {
+    let (status, sink) = call(&rt, rt.alloc(), &["run", "FILE"], RAMP, b"horizon 1\n", 0);
+    assert_eq!(&rt; status, Status::Usage);
+    assert_eq!(&rt; sink.bytes(), USAGE);
+}
+
+#[test]
+fn missing_files_are_read_faults(rt: HostRuntime) {
+    let (status, sink) = call(
+        &rt,
+        rt.alloc(),
+        &["run", "nosuch", "SCRIPT"],
+        RAMP,
+        b"horizon 1\n",
+        0,
+    );
+    assert_eq!(&rt; status, Status::ReadFault);
+    assert_eq!(&rt; sink.bytes(), b"read fault\n".as_slice());
+    let (status, sink) = call(
+        &rt,
+        rt.alloc(),
+        &["run", "FILE", "nosuch"],
+        RAMP,
+        b"horizon 1\n",
+        0,
+    );
+    assert_eq!(&rt; status, Status::ReadFault);
+    assert_eq!(&rt; sink.bytes(), b"read fault\n".as_slice());
+}
+
+#[test]
+fn failing_put_cuts_the_trace(rt: HostRuntime) {
+    let (status, sink) = call(
+        &rt,
+        rt.alloc(),
+        &["run", "FILE", "SCRIPT"],
+        RAMP,
+        b"horizon 3/2\n",
+        3,
+    );
+    assert_eq!(&rt; status, Status::WriteFault);
+    assert_eq!(&rt; sink.bytes(), b"0 #0 x=0\n3/2 - x=3/2\n".as_slice());
+}

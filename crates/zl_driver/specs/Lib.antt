@@ -1,0 +1,3 @@
+pub mod HorizonScript
+pub mod Puts
+pub mod ThinRun

@@ -1,0 +1,35 @@
+ghost use Rattle.std.specs.Prelude.{◌≡◌};
+ghost use Rattle.zl_driver.specs.declared.end.RunAnswer.TheVariants.{Memory as NoMemory};
+
+use zl_outside::Memory;
+use zl_value::{Arith, Pos};
+
+/// How a run ended.
+#[derive(Clone, Copy, Debug, PartialEq, Eq)]
+pub enum End {
+    /// At the horizon.
+    Horizon,
+    /// A step was demanded after as many as may be made.
+    Bound,
+    /// With a fault at this place.
+    Fault(Arith, Pos),
+    /// A code had no value where one was asked for.
+    Empty,
+}
+
+/// Why a run was not made to its end.
+#[derive(Clone, Copy, Debug, PartialEq, Eq)]
+pub enum RunAnswer {
+    /// The sink failed.
+    WriteFault,
+    /// There is no memory. Nothing was written.
+    Memory,
+}
+
+impl From<Memory> for RunAnswer {
+    ghost from_gives = { λ _ answer. answer ≡ NoMemory };
+
+    fn from(_memory: Memory) -> RunAnswer {
+        RunAnswer::Memory
+    }
+}

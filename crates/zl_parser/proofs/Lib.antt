@@ -1,0 +1,4 @@
+pub mod FileLemmas
+pub mod KindLemmas
+pub mod ListLemmas
+pub mod NumberLemmas
