@@ -11,3 +11,8 @@ pub mod ReadingDeclarations
 pub mod Parsed
 pub mod TreeLaws
 pub mod Examples
+pub mod Names
+pub mod NamesDefined
+pub mod NamesUsed
+pub mod Scopes
+pub mod NamesRules

@@ -1,0 +1,18 @@
+//! The rules of names, and the scopes of a program that keeps them.
+#![tactic(auto)]
+
+mod check;
+mod defined;
+mod first;
+mod known;
+mod main_rule;
+mod name_set;
+mod outline;
+mod repeats;
+#[cfg(test)]
+mod tests;
+mod used;
+mod used_eqn;
+mod variables;
+
+pub use check::check_names;
