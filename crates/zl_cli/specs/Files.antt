@@ -1,13 +1,21 @@
 -- What the program reads from its files. This project's own.
-use Rattle.std.specs.Prelude.{◌≡◌, ℕ, ◌<◌, ◌≤◌, List, [], ◌∷◌, ◌++◌, length, Option, Some, None, Result, Ok, Err}
+use Rattle.std.specs.Prelude.{◌≡◌, ℕ, ◌<◌, ◌≤◌, List, [], ◌∷◌, ◌++◌, length, take, Option, Some, None, Result, Ok, Err}
+use Rattle.std.specs.Str.{IsUtf8, chars}
+use Rattle.std.specs.Str.Lossy.{utf8_valid_len}
 use Rattle.zl_outside.specs.FileMap.{FileMap, HoldsFile}
 use Rattle.zl_value.specs.Fraction.{Fraction}
 use Rattle.zl_value.specs.declared.position.Pos.{Pos}
 use Rattle.zl_value.specs.declared.rule.Rule.{Rule}
 use Rattle.zl_value.specs.declared.rule.Rule.TheVariants as rule
 use Rattle.zl_value.specs.declared.thin.Thin.{Thin}
-use Rattle.zl_parser.specs.ThinFile.{IsThinFile}
+use Rattle.zl_lexer.specs.declared.token.LexAnswer.TheVariants as answer
+use Rattle.zl_lexer.specs.declared.token.Token.{Token}
+use Rattle.zl_lexer.specs.Positions.{first_place, behind}
+use Rattle.zl_lexer.specs.Tokens.{IsLexed, StopsAt}
+use Rattle.zl_ast.specs.declared.program.Program.{Program}
+use Rattle.zl_ast.specs.Declarations.{IsProgram as HasTree, nesting_limit}
 use Rattle.zl_driver.specs.HorizonScript.{horizon_of}
+use Rattle.zl_cli.specs.ThinTree.{thin_tree}
 use Rattle.zl_cli.specs.declared.load.Stop.{Stop}
 use Rattle.zl_cli.specs.declared.load.Stop.TheVariants as stop
 
@@ -22,29 +30,63 @@ read_cap = 1048577
 abbrev pub file_start : Pos
 file_start = record { line = 1; column = 1 }
 
--- the first rule that the bytes of a file break
-abbrev pub Breaks : List ℕ → Rule → Type 0
-Breaks bytes rule.Size = longest_file < length bytes
-Breaks bytes rule.Unbuilt = (length bytes ≤ longest_file) × ((thin : Thin) → IsThinFile bytes thin → ⊥)
-Breaks bytes _ = ⊥
+-- the place behind the characters before the first byte that isn't UTF-8
+abbrev pub utf8_end : List ℕ → Pos
+utf8_end bytes = (behind first_place (chars (take (utf8_valid_len bytes) bytes))).at
+
+-- the bytes are text, and not too many
+abbrev pub IsText : List ℕ → Type 0
+IsText bytes = (length bytes ≤ longest_file) × IsUtf8 bytes
+
+-- the text has tokens, and this is the tree of them
+pub record IsTreeOf (bytes : List ℕ) (program : Program) : Type 0 where
+  pub text : IsText bytes
+  pub tokens : List Token
+  pub end : Pos
+  pub lexed : IsLexed bytes tokens program.names end
+  pub tree : HasTree nesting_limit tokens program
+
+-- the text has tokens, and there is no tree of them
+pub record HasNoTree (bytes : List ℕ) : Type 0 where
+  pub text : IsText bytes
+  pub tokens : List Token
+  pub names : List (List ℕ)
+  pub end : Pos
+  pub lexed : IsLexed bytes tokens names end
+  pub none : (program : Program) → HasTree nesting_limit tokens program → ⊥
+
+-- the first rule that the bytes of a file break, and where; at `parse` and `deep` the place is open
+abbrev pub Breaks : List ℕ → Rule → Pos → Type 0
+Breaks bytes rule.Size at = (longest_file < length bytes) × (at ≡ file_start)
+Breaks bytes rule.Utf8 at = (length bytes ≤ longest_file) × (IsUtf8 bytes → ⊥) × (at ≡ utf8_end bytes)
+Breaks bytes rule.Token at = IsText bytes × StopsAt bytes (answer.BadToken at)
+Breaks bytes rule.Literal at = IsText bytes × StopsAt bytes (answer.Literal at)
+Breaks bytes rule.Parse at = HasNoTree bytes
+Breaks bytes rule.Deep at = HasNoTree bytes
+Breaks bytes rule.Unbuilt at = (program : Program) × IsTreeOf bytes program × (thin_tree program ≡ None) × (at ≡ file_start)
+Breaks bytes _ at = ⊥
 
 -- the program of a file that breaks no rule
 abbrev pub IsProgram : List ℕ → Thin → Type 0
-IsProgram bytes thin = (length bytes ≤ longest_file) × IsThinFile bytes thin
+IsProgram bytes thin = (program : Program) × IsTreeOf bytes program × (thin_tree program ≡ Some thin)
 
--- what the bytes of a file answer: their program, or the first rule that they break
+-- why the bytes of a file give no program: the first rule that they break, or there was no memory
+abbrev pub StopsAtBytes : List ℕ → Stop → Type 0
+StopsAtBytes bytes (stop.Refused r at) = Breaks bytes r at
+StopsAtBytes bytes stop.Unread = ⊥
+StopsAtBytes bytes stop.Memory = Unit {0}
+
+-- what the bytes of a file answer
 abbrev pub GivesProgram : List ℕ → Result Thin Stop → Type 0
 GivesProgram bytes (Ok thin) = IsProgram bytes thin
-GivesProgram bytes (Err (stop.Refused r)) = Breaks bytes r
-GivesProgram bytes (Err stop.Unread) = ⊥
-GivesProgram bytes (Err stop.Memory) = Unit {0}
+GivesProgram bytes (Err why) = StopsAtBytes bytes why
 
 -- what reading a file's program answers, and what it leaves of the shelf's list of failed reads
 abbrev pub LoadsProgram : Option FileMap → List (List ℕ) → List (List ℕ) → List ℕ → Result Thin Stop → Type 0
 LoadsProgram told before now name (Ok thin) =
     (now ≡ before) × ((bytes : List ℕ) × HoldsFile told name read_cap bytes × IsProgram bytes thin)
-LoadsProgram told before now name (Err (stop.Refused r)) =
-    (now ≡ before) × ((bytes : List ℕ) × HoldsFile told name read_cap bytes × Breaks bytes r)
+LoadsProgram told before now name (Err (stop.Refused r at)) =
+    (now ≡ before) × ((bytes : List ℕ) × HoldsFile told name read_cap bytes × Breaks bytes r at)
 LoadsProgram told before now name (Err stop.Unread) = now ≡ before ++ name ∷ []
 LoadsProgram told before now name (Err stop.Memory) = now ≡ before
 
@@ -52,7 +94,7 @@ LoadsProgram told before now name (Err stop.Memory) = now ≡ before
 abbrev pub LoadsHorizon : Option FileMap → List (List ℕ) → List (List ℕ) → List ℕ → Result Fraction Stop → Type 0
 LoadsHorizon told before now name (Ok horizon) =
     (now ≡ before) × ((bytes : List ℕ) × HoldsFile told name read_cap bytes × (horizon_of bytes ≡ Some horizon))
-LoadsHorizon told before now name (Err (stop.Refused r)) =
+LoadsHorizon told before now name (Err (stop.Refused r at)) =
     (now ≡ before) × ((bytes : List ℕ) × HoldsFile told name read_cap bytes × (horizon_of bytes ≡ None))
 LoadsHorizon told before now name (Err stop.Unread) = now ≡ before ++ name ∷ []
 LoadsHorizon told before now name (Err stop.Memory) = now ≡ before

@@ -6,6 +6,7 @@ use Rattle.zl_outside.specs.FileMap.{FileMap, HoldsFile}
 use Rattle.zl_outside.specs.Pieces.{StandsFor, IsFront}
 use Rattle.zl_outside.specs.Writes.{Writes}
 use Rattle.zl_value.specs.Fraction.{Fraction}
+use Rattle.zl_value.specs.declared.position.Pos.{Pos}
 use Rattle.zl_value.specs.declared.rule.Rule.{Rule}
 use Rattle.zl_value.specs.declared.script.Ending.{Ending}
 use Rattle.zl_value.specs.declared.script.Ending.TheVariants.{Horizon, Bound, Empty as NoValue, Fault as EndsInFault}
@@ -14,8 +15,12 @@ use Rattle.zl_driver.specs.HorizonScript.{horizon_of}
 use Rattle.zl_driver.specs.ThinRun.{thin_lines, thin_end}
 use Rattle.zl_cli.specs.declared.status.Status.{Status}
 use Rattle.zl_cli.specs.declared.status.Status.TheVariants as status
-use Rattle.zl_cli.specs.Files.{Breaks, IsProgram, read_cap, file_start}
-use Rattle.zl_cli.specs.Texts.{refusal_line, script_line, usage_line, read_fault_line, no_memory_line}
+use Rattle.zl_cli.specs.Files.{Breaks, IsProgram, read_cap}
+use Rattle.zl_cli.specs.Texts.{ok_line, refusal_line, script_line, usage_line, read_fault_line, no_memory_line}
+
+-- the words `check FILE`
+abbrev pub IsCheck : List (List ℕ) → List ℕ → Type 0
+IsCheck words file = words ≡ codes "check" ∷ file ∷ []
 
 -- the words `run FILE SCRIPT`
 abbrev pub IsRun : List (List ℕ) → List ℕ → List ℕ → Type 0
@@ -27,6 +32,15 @@ pub record Call : Type 0 where
   pub told : Option FileMap
   pub failed_before : List (List ℕ)
   pub failed_now : List (List ℕ)
+
+-- the words of a command that reads this file first
+abbrev pub Asks : List (List ℕ) → List ℕ → Type 0
+Asks words file = IsCheck words file ⊎ ((script : List ℕ) × IsRun words file script)
+
+-- the call `check file`
+abbrev pub check_call : Option FileMap → List (List ℕ) → List (List ℕ) → List ℕ → Call
+check_call told before now file =
+    record { words = codes "check" ∷ file ∷ []; told = told; failed_before = before; failed_now = now }
 
 -- the call `run file script`
 abbrev pub run_call : Option FileMap → List (List ℕ) → List (List ℕ) → List ℕ → List ℕ → Call
@@ -41,9 +55,9 @@ AllRead call = call.failed_now ≡ call.failed_before
 abbrev pub IsUnread : Call → List ℕ → Type 0
 IsUnread call name = call.failed_now ≡ call.failed_before ++ name ∷ []
 
--- the file of this name breaks the rule, and no earlier one
-abbrev pub FileBreaks : Call → List ℕ → Rule → Type 0
-FileBreaks call name rule = (bytes : List ℕ) × HoldsFile call.told name read_cap bytes × Breaks bytes rule
+-- the file of this name breaks the rule at this place, and no earlier one
+abbrev pub FileBreaks : Call → List ℕ → Rule → Pos → Type 0
+FileBreaks call name rule at = (bytes : List ℕ) × HoldsFile call.told name read_cap bytes × Breaks bytes rule at
 
 -- the file of this name breaks no rule, and this is its program
 abbrev pub FileIs : Call → List ℕ → Thin → Type 0
@@ -65,26 +79,30 @@ RunsTo call status text = (file : List ℕ) × (script : List ℕ) × (thin : Th
     × IsRun call.words file script × FileIs call file thin × ScriptIs call script (Some horizon)
     × (run_status (thin_end thin horizon) ≡ status) × (text ≡ concat (thin_lines thin horizon))
 
+-- the file is checked and breaks no rule
+abbrev pub ChecksOut : Call → List ℕ → Type 0
+ChecksOut call text = (file : List ℕ) × (thin : Thin) × IsCheck call.words file × FileIs call file thin × (text ≡ ok_line)
+
 -- What a call answers, by its status, and the text of the answer. The statuses come in this order: the words; reading
 -- the file; its refusal; reading the script; its refusal; the run. Want of memory may come at any of these.
 abbrev pub IsAnswer : Call → Status → List ℕ → Type 0
 IsAnswer call status.Usage text =
-    AllRead call × ((file script : List ℕ) → IsRun call.words file script → ⊥) × (text ≡ usage_line)
+    AllRead call × ((file : List ℕ) → Asks call.words file → ⊥) × (text ≡ usage_line)
 IsAnswer call status.ReadFault text =
-    (text ≡ read_fault_line) × ((file : List ℕ) × (script : List ℕ) × IsRun call.words file script
-    × (IsUnread call file ⊎ ((thin : Thin) × FileIs call file thin × IsUnread call script)))
+    (text ≡ read_fault_line) × (((file : List ℕ) × Asks call.words file × IsUnread call file)
+    ⊎ ((file : List ℕ) × (script : List ℕ) × (thin : Thin) × IsRun call.words file script × FileIs call file thin × IsUnread call script))
 IsAnswer call status.RefusedFile text =
-    AllRead call × ((file : List ℕ) × (script : List ℕ) × (rule : Rule) × IsRun call.words file script
-    × FileBreaks call file rule × (text ≡ refusal_line rule file_start))
+    AllRead call × ((file : List ℕ) × (rule : Rule) × (at : Pos) × Asks call.words file
+    × FileBreaks call file rule at × (text ≡ refusal_line rule at))
 IsAnswer call status.RefusedScript text =
     AllRead call × ((file : List ℕ) × (script : List ℕ) × (thin : Thin) × IsRun call.words file script
     × FileIs call file thin × ScriptIs call script None × (text ≡ script_line))
-IsAnswer call status.Done text = AllRead call × RunsTo call status.Done text
+IsAnswer call status.Done text = AllRead call × (ChecksOut call text ⊎ RunsTo call status.Done text)
 IsAnswer call status.ArithFault text = AllRead call × RunsTo call status.ArithFault text
 IsAnswer call status.Bound text = AllRead call × RunsTo call status.Bound text
 IsAnswer call status.Empty text = AllRead call × RunsTo call status.Empty text
 IsAnswer call status.NoMemory text =
-    AllRead call × ((file : List ℕ) × (script : List ℕ) × IsRun call.words file script) × (text ≡ no_memory_line)
+    AllRead call × ((file : List ℕ) × Asks call.words file) × (text ≡ no_memory_line)
 IsAnswer call status.WriteFault text = ⊥
 
 -- the text is written whole, and its status is answered

@@ -9,7 +9,6 @@ use Rattle.zl_cli.specs.declared.load.Stop.{Stop}
 use Rattle.zl_cli.specs.declared.load.Stop.TheVariants as stop
 use Rattle.zl_cli.specs.declared.status.Status.{Status}
 use Rattle.zl_cli.specs.declared.status.Status.TheVariants as status
-use Rattle.zl_cli.specs.Files.{file_start}
 use Rattle.zl_cli.specs.Report.{Tells, run_status}
 use Rattle.zl_cli.specs.Texts.{refusal_line, read_fault_line, no_memory_line}
 
@@ -23,8 +22,8 @@ TellsOrRunsOut before now faults_before faults_now told text result =
 abbrev pub TellsStop : StandsFor → StandsFor → ℕ → ℕ → Stop → Status → Type 0
 TellsStop before now faults_before faults_now stop.Unread result =
     Tells before now faults_before faults_now status.ReadFault read_fault_line result
-TellsStop before now faults_before faults_now (stop.Refused rule) result =
-    TellsOrRunsOut before now faults_before faults_now status.RefusedFile (refusal_line rule file_start) result
+TellsStop before now faults_before faults_now (stop.Refused rule at) result =
+    TellsOrRunsOut before now faults_before faults_now status.RefusedFile (refusal_line rule at) result
 TellsStop before now faults_before faults_now stop.Memory result =
     Tells before now faults_before faults_now status.NoMemory no_memory_line result
 

@@ -30,6 +30,10 @@ rule_text rule.Causality = codes "causality"
 rule_text rule.Grade = codes "grade"
 rule_text rule.Unbuilt = codes "unbuilt"
 
+-- the answer to a file that breaks no rule
+abbrev pub ok_line : List ℕ
+ok_line = codes "ok" ++ line_end
+
 -- the answer to a file that breaks a rule
 abbrev pub refusal_line : Rule → Pos → List ℕ
 refusal_line r at = codes "refused " ++ rule_text r ++ codes " " ++ position_text at ++ line_end

@@ -1,12 +1,14 @@
 //! `zpc`: a compiler and simulator for a subset of Zélus in which numbers are exact fractions.
 #![tactic(auto)]
 
+mod command;
 mod load;
 mod status;
 mod tell;
 #[cfg(test)]
 mod tests;
 mod texts;
+mod thin;
 mod zpc;
 
 use status::Status;

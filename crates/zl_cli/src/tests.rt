@@ -8,6 +8,14 @@ const RAMP: &[u8] = b"let hybrid main() = x where rec der x = 1.0 init 0.0";
 
 const WIDEST: &[u8] = b"let hybrid main() = x where rec der x = 9223372036854775807.0 init 0.0";
 
+const COMMENTED: &[u8] = b"(* a (* b *) *) let hybrid main() = x where rec der x = 1.0 init 0.0";
+
+const TOO_WIDE: &[u8] = b"let hybrid main() = x where rec der x = 9223372036854775808.0 init 0.0";
+
+const TOO_SMALL: &[u8] = b"let hybrid main() = x where rec der x = 1e-19 init 0.0";
+
+const CUT: &[u8] = b"let hybrid main() = x where rec der x = 1.0 init";
+
 const USAGE: &[u8] =
     b"usage: zpc check FILE, code FILE, run FILE SCRIPT, exec CODE SCRIPT, gen SEED\n";
 
@@ -86,22 +94,68 @@ fn increment_past_the_width_is_a_fault(rt: HostRuntime) {
 
 #[test]
 fn other_forms_are_refused(rt: HostRuntime) {
+    let text = b"refused unbuilt 1:1\n";
     assert_run(
         &rt,
         rt.alloc(),
-        b"let",
+        b"let f(a) = a",
         b"horizon 1\n",
         Status::RefusedFile,
-        b"refused unbuilt 1:1\n",
+        text,
     );
-    assert_run(
+    let text = b"refused script unbuilt 1\n";
+    assert_run(&rt, rt.alloc(), RAMP, b"# c\n", Status::RefusedScript, text);
+}
+
+/// Checks a file.
+fn assert_check(rt: &impl Abort, alloc: Global, file: &[u8], status: Status, text: &[u8]) {
+    let (ended, sink) = call(rt, alloc, &["check", "FILE"], file, b"", 0);
+    assert_eq!(rt; ended, status);
+    assert_eq!(rt; sink.bytes(), text);
+}
+
+#[test]
+fn thin_files_are_ok(rt: HostRuntime) {
+    assert_check(&rt, rt.alloc(), RAMP, Status::Done, b"ok\n");
+    assert_check(&rt, rt.alloc(), COMMENTED, Status::Done, b"ok\n");
+}
+
+#[test]
+fn tokens_and_literals_are_refused_at_their_place(rt: HostRuntime) {
+    assert_check(
         &rt,
         rt.alloc(),
-        RAMP,
-        b"# c\n",
-        Status::RefusedScript,
-        b"refused script unbuilt 1\n",
+        b"(* a",
+        Status::RefusedFile,
+        b"refused token 1:1\n",
     );
+    assert_check(
+        &rt,
+        rt.alloc(),
+        TOO_WIDE,
+        Status::RefusedFile,
+        b"refused literal 1:41\n",
+    );
+    assert_check(
+        &rt,
+        rt.alloc(),
+        TOO_SMALL,
+        Status::RefusedFile,
+        b"refused literal 1:41\n",
+    );
+    assert_check(
+        &rt,
+        rt.alloc(),
+        b"let \xff",
+        Status::RefusedFile,
+        b"refused utf8 1:5\n",
+    );
+}
+
+#[test]
+fn tokens_without_a_tree_are_refused(rt: HostRuntime) {
+    let (status, _) = call(&rt, rt.alloc(), &["check", "FILE"], CUT, b"", 0);
+    assert_eq!(&rt; status, Status::RefusedFile);
 }
 
 #[test]

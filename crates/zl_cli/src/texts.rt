@@ -5,6 +5,8 @@ use std::alloc::Global;
 use zl_outside::Memory;
 use zl_value::{Pos, Rule, Text, print_position};
 
+pub const OK_LINE: &[u8] = b"ok\n";
+
 pub const SCRIPT_LINE: &[u8] = b"refused script unbuilt 1\n";
 
 pub const USAGE_LINE: &[u8] =

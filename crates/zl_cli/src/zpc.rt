@@ -1,23 +1,25 @@
 ghost use Rattle.std.specs.Prelude.{◌≡◌, map, string_bytes};
-ghost use Rattle.zl_cli.specs.Files.{file_start};
-ghost use Rattle.zl_cli.specs.Report.{IsReport, run_call};
+ghost use Rattle.zl_cli.specs.Report.{IsReport, check_call, run_call};
 ghost use Rattle.zl_cli.specs.Steps.{TellsOrRunsOut, TellsStop, TellsRun};
 ghost use Rattle.zl_cli.specs.Texts.{refusal_line as line_of_refusal};
 
+use crate::command::{Command, command_of};
 use crate::load::{Stop, load_horizon, load_program};
 use crate::status::Status;
 use crate::tell::tell;
-use crate::texts::{NO_MEMORY_LINE, READ_FAULT_LINE, SCRIPT_LINE, USAGE_LINE, refusal_line};
+use crate::texts::{
+    NO_MEMORY_LINE, OK_LINE, READ_FAULT_LINE, SCRIPT_LINE, USAGE_LINE, refusal_line,
+};
 use std::alloc::Global;
 use zl_driver::{End, RunAnswer, run_thin};
 use zl_outside::{Shelf, Sink};
 use zl_value::{Frac, Pos, Rule, Thin};
 
 /// Writes the refusal of a file.
-fn refuse<K: Sink>(alloc: Global, rule: Rule, sink: &mut K) -> Status
-    ensures { TellsOrRunsOut (K.stands_for sink.old) (K.stands_for sink.new) (K.faults sink.old) (K.faults sink.new) Status.RefusedFile (line_of_refusal rule file_start) result }
+fn refuse<K: Sink>(alloc: Global, rule: Rule, at: Pos, sink: &mut K) -> Status
+    ensures { TellsOrRunsOut (K.stands_for sink.old) (K.stands_for sink.new) (K.faults sink.old) (K.faults sink.new) Status.RefusedFile (line_of_refusal rule at) result }
 {
-    match refusal_line(alloc, rule, Pos { line: 1, column: 1 }) {
+    match refusal_line(alloc, rule, at) {
         Ok(line) => tell(Status::RefusedFile, line.bytes(), sink),
         Err(_) => tell(Status::NoMemory, NO_MEMORY_LINE, sink),
     }
@@ -43,9 +45,21 @@ fn stop<K: Sink>(alloc: Global, why: Stop, sink: &mut K) -> Status
 {
     match why {
         Stop::Unread => tell(Status::ReadFault, READ_FAULT_LINE, sink),
-        Stop::Refused(rule) => refuse(alloc, rule, sink),
+        Stop::Refused { rule, at } => refuse(alloc, rule, at, sink),
         Stop::Memory => tell(Status::NoMemory, NO_MEMORY_LINE, sink),
     }
+}
+
+/// Checks a file.
+fn check<S: Shelf, K: Sink>(alloc: Global, file: &str, shelf: &mut S, sink: &mut K) -> Status
+    ensures told { S.told shelf.new ≡ S.told shelf.old }
+    ensures report { IsReport (check_call (S.told shelf.old) (S.failed shelf.old) (S.failed shelf.new) file.now) (K.stands_for sink.old) (K.stands_for sink.new) (K.faults sink.old) (K.faults sink.new) result }
+{
+    let _thin = match load_program(alloc, file, shelf) {
+        Ok(thin) => thin,
+        Err(why) => return stop(alloc, why, sink),
+    };
+    tell(Status::Done, OK_LINE, sink)
 }
 
 /// Runs the program of a file with a script.
@@ -65,14 +79,20 @@ fn run<S: Shelf, K: Sink>(
     };
     match load_horizon(alloc, script, shelf) {
         Ok(horizon) => run_program(alloc, &thin, horizon, sink),
-        Err(Stop::Refused(_)) => tell(Status::RefusedScript, SCRIPT_LINE, sink),
-        Err(why) => stop(alloc, why, sink),
+        Err(
+            Stop::Refused {
+                rule: _rule,
+                at: _at,
+            },
+        ) => tell(Status::RefusedScript, SCRIPT_LINE, sink),
+        Err(Stop::Unread) => tell(Status::ReadFault, READ_FAULT_LINE, sink),
+        Err(Stop::Memory) => tell(Status::NoMemory, NO_MEMORY_LINE, sink),
     }
 }
 
 /// The program: answers the words behind its name, reads the files that they name from `shelf`, and writes the report
-/// to `sink`. `run FILE SCRIPT` runs the file's program with the script; all other words get the usage line. The
-/// report and the statuses are this project's own.
+/// to `sink`. `check FILE` says whether the file breaks a rule, and `run FILE SCRIPT` runs its program with the script; all
+/// other words get the usage line. The report and the statuses are this project's own.
 pub fn zpc<S: Shelf, K: Sink>(
     alloc: Global,
     words: &[String],
@@ -82,10 +102,9 @@ pub fn zpc<S: Shelf, K: Sink>(
     ensures told { S.told shelf.new ≡ S.told shelf.old }
     ensures report { IsReport (record { words = map string_bytes words.now; told = S.told shelf.old; failed_before = S.failed shelf.old; failed_now = S.failed shelf.new }) (K.stands_for sink.old) (K.stands_for sink.new) (K.faults sink.old) (K.faults sink.new) result }
 {
-    match words {
-        [verb, file, script] if verb.as_str() == "run" => {
-            run(alloc, file.as_str(), script.as_str(), shelf, sink)
-        }
-        _ => tell(Status::Usage, USAGE_LINE, sink),
+    match command_of(words) {
+        Command::Check(file) => check(alloc, file, shelf, sink),
+        Command::Run(file, script) => run(alloc, file, script, shelf, sink),
+        Command::Other => tell(Status::Usage, USAGE_LINE, sink),
     }
 }

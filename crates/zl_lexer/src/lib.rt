@@ -16,4 +16,5 @@ mod word;
 
 pub use lexer::{lex, one_reading};
 pub use names::Names;
+pub use place::end_of;
 pub use token::{LexAnswer, Lexed, Sign, Token, TokenKind, Word};

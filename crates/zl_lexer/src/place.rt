@@ -1,6 +1,8 @@
-ghost use Rattle.std.specs.Prelude.{◌≡◌, ◌+◌, ◌≤◌, length, encode_utf8_all};
+ghost use Rattle.std.specs.Prelude.{◌≡◌, ◌+◌, ◌≤◌, length, encode_utf8_all, IfOk};
+ghost use Rattle.std.specs.Str.{chars};
 ghost use Rattle.zl_lexer.specs.Positions.{first_place, behind};
 
+use std::alloc::{AllocError, Global};
 use zl_value::Pos;
 
 /// A place between the characters of a text.
@@ -40,4 +42,24 @@ impl Place {
         }
         self
     }
+}
+
+/// The place behind the last character of a text.
+pub fn end_of(alloc: Global, text: &str) -> Result<Pos, AllocError>
+    requires { length text.now ≤ 1048576 }
+    ensures { IfOk result (λ at. at ≡ (behind first_place (chars text.now)).at) }
+{
+    let Ok(characters) = text.chars().collect::<Vec<char>>(alloc) else {
+        return Err(AllocError);
+    };
+    Ok(end_of_characters(text, &characters))
+}
+
+fn end_of_characters(text: &str, characters: &[char]) -> Pos
+    requires size { length text.now ≤ 1048576 }
+    requires characters { characters.now ≡ chars text.now }
+    ensures { result ≡ (behind first_place (chars text.now)).at }
+{
+    let _ = text;
+    Place::first().behind(characters).at
 }

@@ -1,4 +1,11 @@
-pub mod FileLemmas
-pub mod KindLemmas
-pub mod ListLemmas
-pub mod NumberLemmas
+pub mod Loops
+pub mod Links
+pub mod Depths
+pub mod Ranks
+pub mod Opening
+pub mod Stops
+pub mod MoveLoops
+pub mod DeclLoops
+pub mod DeclSteps
+pub mod Trees
+pub mod BlockDepths

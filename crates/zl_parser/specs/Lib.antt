@@ -1,4 +1,4 @@
-pub mod Answers
-pub mod Kinds
-pub mod ThinFile
-pub mod ThinParts
+pub mod Blocks
+pub mod Giving
+pub mod Levels
+pub mod ParseAnswers

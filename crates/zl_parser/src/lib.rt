@@ -1,12 +1,20 @@
-//! The files that the program reads.
+//! The tree of a file's tokens.
 #![tactic(auto)]
 
 mod answer;
-mod comment;
-mod cursor;
+mod cond;
+mod decl;
+mod eqn;
+mod expr;
+mod moves;
+mod names;
+mod operator;
+mod stop;
 #[cfg(test)]
 mod tests;
-mod thin;
+mod token;
+mod tree;
+mod variable;
 
-pub use answer::ThinAnswer;
-pub use thin::read_thin;
+pub use answer::ParseAnswer;
+pub use tree::parse;

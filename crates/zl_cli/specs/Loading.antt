@@ -1,0 +1,40 @@
+-- What the steps of reading a file answer. What reading answers is made of these.
+use Rattle.std.specs.Prelude.{◌≡◌, ℕ, List, Option, Some, None, Result, Ok, Err}
+use Rattle.zl_value.specs.declared.rule.Rule.TheVariants as rule
+use Rattle.zl_value.specs.declared.thin.Thin.{Thin}
+use Rattle.zl_lexer.specs.declared.token.LexAnswer.TheVariants as answer
+use Rattle.zl_lexer.specs.declared.token.Lexed.{Lexed}
+use Rattle.zl_lexer.specs.declared.token.Token.{Token}
+use Rattle.zl_lexer.specs.Tokens.{IsLexed, StopsAt}
+use Rattle.zl_ast.specs.declared.program.Program.{Program}
+use Rattle.zl_ast.specs.Declarations.{IsProgram as HasTree, nesting_limit}
+use Rattle.zl_cli.specs.Files.{file_start}
+use Rattle.zl_cli.specs.ThinTree.{thin_tree}
+use Rattle.zl_cli.specs.declared.load.Stop.{Stop}
+use Rattle.zl_cli.specs.declared.load.Stop.TheVariants as stop
+
+-- the text has tokens
+abbrev pub GivesTokens : List ℕ → Result Lexed Stop → Type 0
+GivesTokens text (Ok l) = IsLexed text l.tokens l.names l.end
+GivesTokens text (Err (stop.Refused rule.Token at)) = StopsAt text (answer.BadToken at)
+GivesTokens text (Err (stop.Refused rule.Literal at)) = StopsAt text (answer.Literal at)
+GivesTokens text (Err (stop.Refused _ at)) = ⊥
+GivesTokens text (Err stop.Unread) = ⊥
+GivesTokens text (Err stop.Memory) = Unit {0}
+
+-- the tokens have a tree
+abbrev pub GivesTree : List Token → List (List ℕ) → Result Program Stop → Type 0
+GivesTree tokens names (Ok program) = HasTree nesting_limit tokens program × (program.names ≡ names)
+GivesTree tokens names (Err (stop.Refused rule.Parse at)) = (program : Program) → HasTree nesting_limit tokens program → ⊥
+GivesTree tokens names (Err (stop.Refused rule.Deep at)) = (program : Program) → HasTree nesting_limit tokens program → ⊥
+GivesTree tokens names (Err (stop.Refused _ at)) = ⊥
+GivesTree tokens names (Err stop.Unread) = ⊥
+GivesTree tokens names (Err stop.Memory) = Unit {0}
+
+-- the tree is of the form that is built
+abbrev pub GivesThin : Program → Result Thin Stop → Type 0
+GivesThin program (Ok thin) = thin_tree program ≡ Some thin
+GivesThin program (Err (stop.Refused rule.Unbuilt at)) = (thin_tree program ≡ None) × (at ≡ file_start)
+GivesThin program (Err (stop.Refused _ at)) = ⊥
+GivesThin program (Err stop.Unread) = ⊥
+GivesThin program (Err stop.Memory) = Unit {0}
