@@ -16,3 +16,11 @@ pub mod NamesDefined
 pub mod NamesUsed
 pub mod Scopes
 pub mod NamesRules
+pub mod Unsolved
+pub mod Assignments
+pub mod Levels
+pub mod TypeEqualities
+pub mod Kinds
+pub mod TypesRules
+pub mod Anchored
+pub mod Initialised

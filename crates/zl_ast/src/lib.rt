@@ -1,6 +1,7 @@
 //! The tree of a program, and the grammar: which lists of tokens have which tree.
 #![tactic(auto)]
 
+mod constraint;
 mod eqn;
 mod expr;
 pub mod laws;
@@ -11,6 +12,7 @@ mod scope;
 #[cfg(test)]
 mod tests;
 
+pub use constraint::{Asked, Equality, Requirement, Side};
 pub use eqn::{Arm, Body, Cond, Eqn, Move, ResetArm, State, Up};
 pub use expr::{Expr, Link};
 pub use name::Name;
