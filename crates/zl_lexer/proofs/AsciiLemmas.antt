@@ -1,4 +1,4 @@
--- The text of a number is ASCII, so its characters are its bytes.
+-- The kind of a token is read from its bytes. The text of a number is ASCII, so its characters are its bytes.
 use Rattle.std.proofs.Common.{◌≡◌, ℕ, ◌+◌, ◌<◌, Bool, true, false, ◌||◌, ◌==◌, nat_lt, cond, List, [], ◌∷◌, ◌++◌, take, Option, Some, None, is_some, option_map, encode_utf8_all, inl, inr, refl, sym, subst, ◌∙◌, ap, arith}
 use Rattle.std.specs.List.{list_all}
 use Rattle.std.specs.Char.{is_ascii_digit}
@@ -10,8 +10,8 @@ use Rattle.zl_value.specs.Decimal.{run, after_run, is_digits, float_parts}
 use Rattle.zl_lexer.specs.declared.front.Form.{Form}
 use Rattle.zl_lexer.specs.declared.front.Form.TheVariants as form
 use Rattle.zl_lexer.specs.declared.token.TokenKind.{TokenKind}
-use Rattle.zl_lexer.specs.Numbers.{float_kind}
-use Rattle.zl_lexer.specs.Tokens.{HasForm, Known, kind_of, numbered_kind}
+use Rattle.zl_lexer.specs.Numbers.{int_kind, float_kind}
+use Rattle.zl_lexer.specs.Tokens.{HasForm, Known, kind_of, name_kind, numbered_kind}
 use Rattle.zl_lexer.proofs.ClassLemmas.{digit_ascii}
 use Rattle.zl_lexer.proofs.DigitLemmas.{digits, digits_are, is_signed, is_exponent, ends_or_exponent, is_tail, is_fraction, float_some}
 use Rattle.zl_lexer.proofs.FormLemmas.{one_more, form_at}
@@ -78,6 +78,9 @@ fraction_ascii (c ∷ text) e = fraction_at c text (c == 46) refl e
     fraction_at c text true is e = cons_ascii c text (omega (arith, eqb-true c 46 is)) (split_ascii text (ending_ascii (after_run text) e))
     fraction_at c text false is e = exponent_ascii (c ∷ text) e
 
+pub int_bytes : (text : List ℕ) → is_digits text ≡ true → encode_utf8_all text ≡ text
+int_bytes text e = ascii_bytes text (digits_ascii text e)
+
 pub float_bytes : (text : List ℕ) → is_some (float_parts text) ≡ true → encode_utf8_all text ≡ text
 float_bytes text e =
     let parts = and_parts (is_digits (run text)) (is_fraction (after_run text)) (sym (float_some text) ∙ e) in
@@ -93,3 +96,20 @@ pub float_kind_of : (names : List (List ℕ)) (f : Form) (text bytes : List ℕ)
 float_kind_of names f text bytes k is h b e =
     let same : encode_utf8_all text ≡ text = float_bytes text (form_at (subst (HasForm text) is h)) in
     e ∙ ap float_kind (b ∙ same) ∙ sym (same_known names (float_kind text)) ∙ ap (λ g. option_map (numbered_kind names) (kind_of g text)) (sym is)
+
+-- the kind of a whole number that is read from its bytes
+pub int_kind_of : (names : List (List ℕ)) (f : Form) (text bytes : List ℕ) (k : Option TokenKind) → f ≡ form.Int → HasForm text f
+    → bytes ≡ encode_utf8_all text → k ≡ int_kind bytes → k ≡ option_map (numbered_kind names) (kind_of f text)
+int_kind_of names f text bytes k is h b e =
+    let same : encode_utf8_all text ≡ text = int_bytes text (form_at (subst (HasForm text) is h)) in
+    e ∙ ap int_kind (b ∙ same) ∙ sym (same_known names (int_kind text)) ∙ ap (λ g. option_map (numbered_kind names) (kind_of g text)) (sym is)
+
+-- these bytes are digits
+pub int_digits : (f : Form) (text bytes : List ℕ) → f ≡ form.Int → HasForm text f → bytes ≡ encode_utf8_all text → is_digits bytes ≡ true
+int_digits f text bytes is h b =
+    let all : is_digits text ≡ true = form_at (subst (HasForm text) is h) in
+    ap is_digits (b ∙ int_bytes text all) ∙ all
+
+-- the kind of a name that is read from its bytes
+pub name_kind_of : (f : Form) (text bytes : List ℕ) → f ≡ form.Name → bytes ≡ encode_utf8_all text → Some (name_kind bytes) ≡ kind_of f text
+name_kind_of f text bytes is b = ap (λ t. Some (name_kind t)) b ∙ ap (λ g. kind_of g text) (sym is)

@@ -11,3 +11,4 @@ pub mod NumberLemmas
 pub mod PlaceLemmas
 pub mod ReadingLemmas
 pub mod StepLemmas
+pub mod TextLemmas

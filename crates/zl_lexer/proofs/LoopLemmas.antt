@@ -3,7 +3,7 @@ use Rattle.std.proofs.Common.{◌≡◌, ℕ, zero, suc, ◌+◌, ◌≤◌, tru
 use Rattle.std.specs.List.{AllByRecursion, list_any, IsDistinct}
 use Rattle.std.specs.Str.{chars, IsUtf8, bytes_eq}
 use Rattle.std.proofs.Math.Utf8.{scalars}
-use Rattle.std.proofs.lemmas.Bool.{and_parts}
+use Rattle.std.proofs.lemmas.Bool.{and_parts, and_from}
 use Rattle.std.proofs.lemmas.List.{append-nil, map-append, length-take-le}
 use Rattle.std.proofs.lemmas.List.Elements.{filter_map-append}
 use Rattle.std.proofs.lemmas.Str.{encodes-chars, scalars-chars, length-le-encodes}
@@ -78,6 +78,12 @@ pub in_order_push : (ts : List Token) (t : Token) (end : Pos) → InOrder ts t.a
 in_order_push [] t end h before = (before, tt, tt)
 in_order_push (u ∷ ts) t end h before =
     (Before-trans u.at t.at end h.0 before, all-push (λ v. Before u.at v.at) ts t h.1 h.0, in_order_push ts t end h.2 before)
+
+pub scalars-take : (n : ℕ) (rest : List ℕ) → scalars rest ≡ true → scalars (take n rest) ≡ true
+scalars-take zero [] e = e
+scalars-take zero (c ∷ rest) e = refl
+scalars-take (suc n) [] e = e
+scalars-take (suc n) (c ∷ rest) e = let parts = and_parts _ (scalars rest) e in and_from _ _ parts.0 (scalars-take n rest parts.1)
 
 scalars-drop : (n : ℕ) (rest : List ℕ) → scalars rest ≡ true → scalars (drop n rest) ≡ true
 scalars-drop zero rest e = e

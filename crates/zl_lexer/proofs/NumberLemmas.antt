@@ -23,15 +23,12 @@ pub record IsDigitAt (text : List ℕ) (i x : ℕ) : Type 0 where
   pub low : 48 ≤ x
   pub next : digits_value 10 (take (i + 1) text) ≡ digits_value 10 (take i text) * 10 + (x - 48)
 
-pub digit_at : (text : List ℕ) (i x : ℕ) → is_digits text ≡ true → i < length text → x ≡ get_or text i x → IsDigitAt text i x
-digit_at text i x all h is =
-    let digit : is_ascii_digit (get_or text i x) ≡ true = prefix_len_passes is_ascii_digit text i x (omega (arith, (digits_are text all).1)) in
-    let known : is_ascii_digit x ≡ true = ap is_ascii_digit is ∙ digit in
-    let low = digit_low x known in
-    let value = digit_value_digit x (low, digit_high x known) in
-    let read : x ≡ get_or text i 0 = get_or_read text i x h is 0 in
-    let same : digit_value (get_or text i 0) ≡ digit_value x = ap digit_value (sym read) in
-    record { low = low; next = omega (arith, digits_value_more 10 text i h, value, same) }
+pub digit_at : (text : List ℕ) (i : ℕ) → is_digits text ≡ true → i < length text → IsDigitAt text i (get_or text i 0)
+digit_at text i all h =
+    let digit : is_ascii_digit (get_or text i 0) ≡ true = prefix_len_passes is_ascii_digit text i 0 (omega (arith, (digits_are text all).1)) in
+    let low = digit_low (get_or text i 0) digit in
+    let value = digit_value_digit (get_or text i 0) (low, digit_high (get_or text i 0) digit) in
+    record { low = low; next = omega (arith, digits_value_more 10 text i h, value) }
 
 -- past the greatest number once a front is past it
 pub past : (text : List ℕ) (i n : ℕ) → n ≡ digits_value 10 (take i text) → 9223372036854775807 < n → None ≡ int_kind text

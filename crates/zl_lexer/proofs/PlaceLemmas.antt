@@ -1,12 +1,13 @@
 -- Properties of places: which bytes stand before them, and their order.
-use Rattle.std.proofs.Common.{◌≡◌, ℕ, ◌+◌, ◌<◌, ◌≤◌, Bool, true, false, ◌==◌, cond, List, [], ◌∷◌, ◌++◌, length, take, drop, encode_utf8_all, inl, inr, refl, sym, ◌∙◌, ap, arith}
+use Rattle.std.proofs.Common.{◌≡◌, ℕ, zero, suc, ◌+◌, ◌-◌, ◌<◌, ◌≤◌, Bool, true, false, ◌==◌, cond, List, [], ◌∷◌, ◌++◌, length, take, drop, encode_utf8_all, inl, inr, refl, sym, subst, ◌∙◌, ap, arith}
 use Rattle.std.specs.Char.{len_utf8}
+use Rattle.std.specs.List.{prefix_len}
 use Rattle.std.proofs.Math.Utf8.{encode}
-use Rattle.std.proofs.lemmas.List.{length-append, length-drop, take-append-drop, drop-drop, drop_at, take_at}
+use Rattle.std.proofs.lemmas.List.{length-append, length-drop, take-append-drop, drop-drop, drop_at, take_at, take_all}
 use Rattle.std.proofs.lemmas.Str.{encodes-append, length-encode, len_utf8_bounds}
 use Rattle.zl_value.specs.declared.position.Pos.{Pos}
 use Rattle.zl_lexer.specs.declared.place.Place.{Place}
-use Rattle.zl_lexer.specs.Positions.{pos_after, place_after, behind, Before}
+use Rattle.zl_lexer.specs.Positions.{is_white, pos_after, first_place, place_after, behind, Before}
 
 -- the bytes of the characters
 pub byte-behind : (p : Place) (text : List ℕ) → (behind p text).byte ≡ p.byte + length (encode_utf8_all text)
@@ -77,3 +78,93 @@ pub IsRest-take : (text : List ℕ) (at n : ℕ) (rest : List ℕ) → IsRest te
 IsRest-take text at n rest h =
     ap (take (length (encode_utf8_all (take n rest)))) (h.left ∙ encode-parts n rest)
     ∙ take_at (encode_utf8_all (take n rest)) (encode_utf8_all (drop n rest)) _ refl
+
+-- So many characters of a text are passed, and so many are still to be passed: the place and what stands there.
+pub record IsPast (start : Place) (text : List ℕ) (len left : ℕ) (p : Place) (rest : List ℕ) : Type 0 where
+  pub place : behind p (take left rest) ≡ behind start (take len text)
+  pub rest_is : drop left rest ≡ drop len text
+  pub bytes : p.byte + length (encode_utf8_all rest) ≤ 1048576
+  pub low : IsLow p
+
+-- the next character
+pub past_next : (start : Place) (text : List ℕ) (len left less : ℕ) (p q : Place) (here : List ℕ) (c : ℕ) (rest : List ℕ)
+    → IsPast start text len left p here → here ≡ c ∷ rest → left ≡ suc less → q ≡ place_after p c → IsPast start text len less q rest
+past_next start text len left less p q here c rest i is more is_q =
+    let at = subst (λ n. IsPast start text len n p (c ∷ rest)) more (subst (IsPast start text len left p) is i) in
+    subst (λ x. IsPast start text len less x rest) (sym is_q) (record {
+      place = at.place;
+      rest_is = at.rest_is;
+      bytes = omega (arith, at.bytes, length-append (encode c) (encode_utf8_all rest), length-encode c);
+      low = IsLow-place_after p c at.low;
+    })
+
+pub next_fits : (start : Place) (text : List ℕ) (len left : ℕ) (p : Place) (here : List ℕ) (c : ℕ) (rest : List ℕ)
+    → IsPast start text len left p here → here ≡ c ∷ rest → p.byte + len_utf8 c ≤ 1048576
+next_fits start text len left p here c rest i is =
+    let at = subst (IsPast start text len left p) is i in
+    omega (arith, at.bytes, length-append (encode c) (encode_utf8_all rest), length-encode c)
+
+pub record IsAllPast (start : Place) (text : List ℕ) (len : ℕ) (p : Place) (rest : List ℕ) : Type 0 where
+  pub place : p ≡ behind start (take len text)
+  pub rest_is : rest ≡ drop len text
+
+pub past_none : (start : Place) (text : List ℕ) (len left : ℕ) → left ≡ len → start.byte + length (encode_utf8_all text) ≤ 1048576 → start.at.line ≤ start.byte + 1
+    → start.at.column ≤ start.byte + 1 → IsPast start text len left start text
+past_none start text len left all bytes line column = record { place = ap (λ n. behind start (take n text)) all; rest_is = ap (λ n. drop n text) all; bytes = bytes; low = record { line = line; column = column } }
+
+-- all are passed
+pub past_all : (start : Place) (text : List ℕ) (len left : ℕ) (p : Place) (rest : List ℕ) → IsPast start text len left p rest → left ≡ 0
+    → IsAllPast start text len p rest
+past_all start text len left p rest i none =
+    let at = subst (λ n. IsPast start text len n p rest) none i in
+    all_at rest at
+  where
+    all_at : (rest : List ℕ) → IsPast start text len 0 p rest → IsAllPast start text len p rest
+    all_at [] at = record { place = at.place; rest_is = at.rest_is }
+    all_at (c ∷ rest) at = record { place = at.place; rest_is = at.rest_is }
+
+-- or no character is left
+pub past_end : (start : Place) (text : List ℕ) (len left : ℕ) (p : Place) (rest : List ℕ) → IsPast start text len left p rest → rest ≡ []
+    → IsAllPast start text len p rest
+past_end start text len left p rest i is =
+    let at = subst (IsPast start text len left p) is i in
+    subst (IsAllPast start text len p) (sym is) (end_at left at)
+  where
+    end_at : (n : ℕ) → IsPast start text len n p [] → IsAllPast start text len p []
+    end_at zero at = record { place = at.place; rest_is = at.rest_is }
+    end_at (suc n) at = record { place = at.place; rest_is = at.rest_is }
+
+-- the end of a text, which has no more characters than this
+pub end_is : (text : List ℕ) (n : ℕ) (end : Place) → length text ≤ n → end ≡ behind first_place (take n text) → end.at ≡ (behind first_place text).at
+end_is text n end h e = ap (λ (p : Place). p.at) (e ∙ ap (behind first_place) (take_all n text h))
+
+-- a text that begins with white space has one more of it than the text behind
+pub white_more : (here : List ℕ) (c : ℕ) (rest : List ℕ) → here ≡ c ∷ rest → is_white c ≡ true → prefix_len is_white here ≡ suc (prefix_len is_white rest)
+white_more here c rest is e =
+    ap (prefix_len is_white) is ∙ ap (λ b. cond b (1 + prefix_len is_white rest) 0) e ∙ omega arith
+
+pub white_ends : (here : List ℕ) (c : ℕ) (rest : List ℕ) → here ≡ c ∷ rest → is_white c ≡ false → prefix_len is_white here ≡ 0
+white_ends here c rest is e = ap (prefix_len is_white) is ∙ ap (λ b. cond b (1 + prefix_len is_white rest) 0) e
+
+-- a place whose bytes are those of a text that are no longer left, and those before it
+abbrev pub by_rest : ℕ → ℕ → ℕ → Pos → Place
+by_rest byte all left at = record { byte = byte + (all - left); at = at }
+
+pub by_rest_first : (p : Place) (all : ℕ) → p ≡ by_rest p.byte all all p.at
+by_rest_first p all = let same : p.byte ≡ p.byte + (all - all) = omega arith in ap (λ n. made n) same
+  where
+    made : ℕ → Place
+    made n = record { byte = n; at = p.at }
+
+pub place_by_rest : (byte all here left : ℕ) (at to : Pos) (c : ℕ) → here ≡ len_utf8 c + left → here ≤ all → to ≡ pos_after at c
+    → by_rest byte all left to ≡ place_after (by_rest byte all here at) c
+place_by_rest byte all here left at to c size within is_to =
+    let bytes : byte + (all - left) ≡ byte + (all - here) + len_utf8 c = omega arith in
+    ap (λ n. made n to) bytes ∙ ap (made (byte + (all - here) + len_utf8 c)) is_to
+  where
+    made : ℕ → Pos → Place
+    made n x = record { byte = n; at = x }
+
+-- the bytes that a character takes
+pub char_bytes : (here left : List ℕ) (c : ℕ) → here ≡ encode c ++ left → length here ≡ len_utf8 c + length left
+char_bytes here left c is = omega (arith, ap length is, length-append (encode c) left, length-encode c)

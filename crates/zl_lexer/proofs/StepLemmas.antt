@@ -1,20 +1,24 @@
 -- The steps of reading a text, in the values that the loop has.
-use Rattle.std.proofs.Common.{◌≡◌, ℕ, ◌+◌, ◌-◌, ◌≤◌, true, List, [], ◌∷◌, ◌++◌, length, take, drop, Option, Some, None, option_map, encode_utf8_all, refl, sym, subst, ◌∙◌, ap, arith}
+use Rattle.std.proofs.Common.{◌≡◌, ℕ, ◌+◌, ◌-◌, ◌<◌, ◌≤◌, Bool, true, false, cond, MatchBool, List, [], ◌∷◌, ◌++◌, length, take, drop, Option, Some, None, option_map, encode_utf8_all, refl, sym, subst, ◌∙◌, ap, arith}
+use Rattle.std.specs.List.{prefix_len}
 use Rattle.std.specs.Str.{chars, IsUtf8, IsCharBoundary}
 use Rattle.std.proofs.Math.Utf8.{scalars}
-use Rattle.std.proofs.lemmas.Str.{IsCharBoundary-from_drop}
+use Rattle.std.proofs.lemmas.List.{length-drop}
+use Rattle.std.proofs.lemmas.Str.{IsCharBoundary-from_drop, chars-encodes}
 use Rattle.zl_lexer.specs.declared.front.Form.{Form}
 use Rattle.zl_lexer.specs.declared.front.Front.TheVariants as front
 use Rattle.zl_lexer.specs.declared.place.Place.{Place}
 use Rattle.zl_lexer.specs.declared.token.LexAnswer.TheVariants as answer
 use Rattle.zl_lexer.specs.declared.token.Token.{Token}
 use Rattle.zl_lexer.specs.declared.token.TokenKind.{TokenKind}
+use Rattle.zl_lexer.specs.Comments.{opens_comment, comment_len}
 use Rattle.zl_lexer.specs.Facts.{IsKind}
-use Rattle.zl_lexer.specs.Positions.{first_place, behind}
-use Rattle.zl_lexer.specs.Tokens.{HasForm, Begins, Kind, Named, Known, kind_of, numbered_kind, with_kind, StopsAt}
+use Rattle.zl_lexer.specs.Positions.{is_white, first_place, place_after, behind}
+use Rattle.zl_lexer.specs.Tokens.{HasForm, IsNext, Begins, comment_front, Kind, Named, Known, kind_of, numbered_kind, with_kind, StopsAt}
+use Rattle.zl_lexer.proofs.FormLemmas.{one_more}
 use Rattle.zl_lexer.proofs.FrontLemmas.{token_longest, token_fits}
-use Rattle.zl_lexer.proofs.LoopLemmas.{IsReadTo, at_start, passed_on, added, taken, refused, behind_front}
-use Rattle.zl_lexer.proofs.PlaceLemmas.{byte-behind, IsRest, IsRest-fits, IsRest-take}
+use Rattle.zl_lexer.proofs.LoopLemmas.{IsReadTo, at_start, passed_on, added, taken, refused, behind_front, scalars-take}
+use Rattle.zl_lexer.proofs.PlaceLemmas.{byte-behind, IsRest, IsRest-take}
 
 pub started : (text rest : List ℕ) (p : Place) (tokens : List Token) (names : List (List ℕ)) → IsUtf8 text → rest ≡ chars text → p ≡ first_place
     → tokens ≡ [] → names ≡ [] → IsReadTo text p rest tokens names
@@ -23,19 +27,50 @@ started text rest p tokens names utf8 e is_p is_tokens is_names =
     (subst (λ ts. IsReadTo text first_place rest ts names) (sym is_tokens)
     (subst (λ ns. IsReadTo text first_place rest [] ns) (sym is_names) (at_start text rest utf8 e)))
 
--- the characters that are taken are within the text
-pub bytes_fit : (text : List ℕ) (p : Place) (rest taken : List ℕ) (tokens : List Token) (names : List (List ℕ)) (n : ℕ) → IsReadTo text p rest tokens names
-    → length text ≤ 1048576 → taken ≡ take n rest → p.byte + length (encode_utf8_all taken) ≤ 1048576
-bytes_fit text p rest taken tokens names n h small e =
-    let size : length (encode_utf8_all taken) ≡ length (encode_utf8_all (take n rest)) = ap (λ t. length (encode_utf8_all t)) e in
-    omega (arith, IsRest-fits text p.byte n rest h.rest_is, size)
+-- the characters that are left are within the text
+pub bytes_fit : (text : List ℕ) (p : Place) (rest : List ℕ) (tokens : List Token) (names : List (List ℕ)) → IsReadTo text p rest tokens names
+    → length text ≤ 1048576 → p.byte + length (encode_utf8_all rest) ≤ 1048576
+bytes_fit text p rest tokens names h small = omega (arith, h.rest_is.within, length-drop p.byte text, ap length h.rest_is.left)
 
-pub passed_step : (text : List ℕ) (p q : Place) (rest passed back : List ℕ) (tokens : List Token) (names : List (List ℕ)) (n : ℕ)
-    → IsReadTo text p rest tokens names → Begins rest (front.Passed n) → passed ≡ take n rest → back ≡ drop n rest → q ≡ behind p passed
+pub passed_step : (text : List ℕ) (p q : Place) (rest back : List ℕ) (tokens : List Token) (names : List (List ℕ)) (n : ℕ)
+    → IsReadTo text p rest tokens names → Begins rest (front.Passed n) → back ≡ drop n rest → q ≡ behind p (take n rest)
     → IsReadTo text q back tokens names
-passed_step text p q rest passed back tokens names n h b is_front is_back is_q =
+passed_step text p q rest back tokens names n h b is_back is_q =
     subst (λ t. IsReadTo text q t tokens names) (sym is_back)
-    (subst (λ x. IsReadTo text x (drop n rest) tokens names) (sym (is_q ∙ ap (behind p) is_front)) (passed_on text p rest tokens names n h b))
+    (subst (λ x. IsReadTo text x (drop n rest) tokens names) (sym is_q) (passed_on text p rest tokens names n h b))
+
+white_begins : (c : ℕ) (rest : List ℕ) → is_white c ≡ true → Begins (c ∷ rest) (front.Passed 1)
+white_begins c rest e =
+    subst (λ b. MatchBool b (front.Passed 1 ≡ front.Passed 1)
+    (MatchBool (opens_comment (c ∷ rest)) (front.Passed 1 ≡ comment_front (comment_len (c ∷ rest))) (IsNext (c ∷ rest) (front.Passed 1)))) (sym e) refl
+
+all_white : (text : List ℕ) (p : Place) (rest : List ℕ) (tokens : List Token) (names : List (List ℕ)) → IsReadTo text p rest tokens names
+    → IsReadTo text (behind p (take (prefix_len is_white rest) rest)) (drop (prefix_len is_white rest) rest) tokens names
+all_white text p [] tokens names h = h
+all_white text p (c ∷ rest) tokens names h =
+    all_at (is_white c) refl (λ e. all_white text (place_after p c) rest tokens names (passed_on text p (c ∷ rest) tokens names 1 h (white_begins c rest e)))
+  where
+    all_at : (b : Bool) → is_white c ≡ b
+        → (is_white c ≡ true → IsReadTo text (behind (place_after p c) (take (prefix_len is_white rest) rest)) (drop (prefix_len is_white rest) rest) tokens names)
+        → IsReadTo text (behind p (take (cond b (1 + prefix_len is_white rest) 0) (c ∷ rest))) (drop (cond b (1 + prefix_len is_white rest) 0) (c ∷ rest)) tokens names
+    all_at false e further = h
+    all_at true e further =
+        subst (λ n. IsReadTo text (behind p (take n (c ∷ rest))) (drop n (c ∷ rest)) tokens names) (sym (one_more (prefix_len is_white rest))) (further e)
+
+-- white space is passed
+pub white_step : (text : List ℕ) (p q : Place) (rest back : List ℕ) (tokens : List Token) (names : List (List ℕ)) → IsReadTo text p rest tokens names
+    → back ≡ drop (prefix_len is_white rest) rest → q ≡ behind p (take (prefix_len is_white rest) rest) → IsReadTo text q back tokens names
+white_step text p q rest back tokens names h is_back is_q =
+    subst (λ t. IsReadTo text q t tokens names) (sym is_back)
+    (subst (λ x. IsReadTo text x (drop (prefix_len is_white rest) rest) tokens names) (sym is_q) (all_white text p rest tokens names h))
+
+-- and no more characters are left than before
+pub no_more : (rest back last : List ℕ) (n : ℕ) → length back < length rest → last ≡ drop n back → length last < length rest
+no_more rest back last n h is = omega (arith, h, ap length is, length-drop n back)
+
+-- characters are left where some are passed
+pub fewer : (rest back : List ℕ) (n : ℕ) → 0 < n → n ≤ length rest → back ≡ drop n rest → length back < length rest
+fewer rest back n some within is_back = omega (arith, ap length is_back, length-drop n rest)
 
 -- a place between two characters
 boundary : (text : List ℕ) (at : ℕ) (rest : List ℕ) → IsRest text at rest → scalars rest ≡ true → IsCharBoundary text at
@@ -45,25 +80,34 @@ pub boundary_here : (text : List ℕ) (p : Place) (rest : List ℕ) (tokens : Li
 boundary_here text p rest tokens names h = boundary text p.byte rest h.rest_is h.scalar
 
 -- the bytes of a token
-pub record IsWord (text : List ℕ) (p q : Place) (rest word : List ℕ) (f : Form) : Type 0 where
+pub record IsWord (text : List ℕ) (p q : Place) (rest : List ℕ) (n : ℕ) (f : Form) : Type 0 where
   pub start : p.byte ≤ q.byte
   pub end : IsCharBoundary text q.byte
-  pub bytes : take (q.byte - p.byte) (drop p.byte text) ≡ encode_utf8_all word
-  pub form : HasForm word f
+  pub characters : chars (take (q.byte - p.byte) (drop p.byte text)) ≡ take n rest
+  pub form : HasForm (take n rest) f
 
-pub word_step : (text : List ℕ) (p q : Place) (rest word : List ℕ) (tokens : List Token) (names : List (List ℕ)) (n : ℕ) (f : Form)
-    → IsReadTo text p rest tokens names → Begins rest (front.Token n f) → word ≡ take n rest → q ≡ behind p word → IsWord text p q rest word f
-word_step text p q rest word tokens names n f h b is_word is_q =
+pub word_step : (text : List ℕ) (p q : Place) (rest : List ℕ) (tokens : List Token) (names : List (List ℕ)) (n : ℕ) (f : Form)
+    → IsReadTo text p rest tokens names → Begins rest (front.Token n f) → q ≡ behind p (take n rest) → IsWord text p q rest n f
+word_step text p q rest tokens names n f h b is_q =
     let next = behind_front text p rest n h.rest_is h.scalar h.low (token_fits rest n f b) in
-    let place : q ≡ behind p (take n rest) = is_q ∙ ap (behind p) is_word in
-    let size : q.byte ≡ p.byte + length (encode_utf8_all (take n rest)) = ap (λ (x : Place). x.byte) place ∙ byte-behind p (take n rest) in
+    let size : q.byte ≡ p.byte + length (encode_utf8_all (take n rest)) = ap (λ (x : Place). x.byte) is_q ∙ byte-behind p (take n rest) in
     let more : q.byte - p.byte ≡ length (encode_utf8_all (take n rest)) = omega arith in
     record {
       start = omega arith;
-      end = subst (λ (x : Place). IsCharBoundary text x.byte) (sym place) (boundary text (behind p (take n rest)).byte (drop n rest) next.rest_is next.scalar);
-      bytes = ap (λ k. take k (drop p.byte text)) more ∙ IsRest-take text p.byte n rest h.rest_is ∙ ap encode_utf8_all (sym is_word);
-      form = subst (λ t. HasForm t f) (sym is_word) (token_longest rest n f b).form;
+      end = subst (λ (x : Place). IsCharBoundary text x.byte) (sym is_q) (boundary text (behind p (take n rest)).byte (drop n rest) next.rest_is next.scalar);
+      characters =
+          ap chars (ap (λ k. take k (drop p.byte text)) more ∙ IsRest-take text p.byte n rest h.rest_is)
+          ∙ chars-encodes (take n rest) (scalars-take n rest h.scalar);
+      form = (token_longest rest n f b).form;
     }
+
+pub word_is : (text : List ℕ) (p q : Place) (rest word : List ℕ) (n : ℕ) (f : Form) → IsWord text p q rest n f
+    → word ≡ take (q.byte - p.byte) (drop p.byte text) → chars word ≡ take n rest
+word_is text p q rest word n f w is = ap chars is ∙ w.characters
+
+pub word_form : (text : List ℕ) (p q : Place) (rest word : List ℕ) (n : ℕ) (f : Form) → IsWord text p q rest n f
+    → word ≡ take (q.byte - p.byte) (drop p.byte text) → HasForm (chars word) f
+word_form text p q rest word n f w is = subst (λ t. HasForm t f) (sym (word_is text p q rest word n f w is)) w.form
 
 some_kind : (names : List (List ℕ)) (o : Option Kind) (kind : TokenKind) → Some kind ≡ option_map (numbered_kind names) o
     → (k : Kind) × (o ≡ Some k) × (kind ≡ numbered_kind names k) × (with_kind names o ≡ added names k)

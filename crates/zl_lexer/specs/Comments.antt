@@ -15,6 +15,11 @@ abbrev pub opens_comment : List ℕ → Bool
 opens_comment (c ∷ d ∷ text) = opens c d
 opens_comment text = false
 
+-- the mark that closes a comment begins here
+abbrev pub closes_comment : List ℕ → Bool
+closes_comment (c ∷ d ∷ text) = closes c d
+closes_comment text = false
+
 -- Inside so many comments: how many characters stand up to the end of the mark that closes the outermost of them.
 -- `None` where it isn't closed.
 unfoldable pub len_to_close : ℕ → List ℕ → Option ℕ

@@ -1,19 +1,53 @@
-ghost use Rattle.std.specs.Prelude.{◌≡◌, ◌≤◌, [], ◌∷◌, length, MatchOption};
+ghost use Rattle.std.specs.Prelude.{◌≡◌, ℕ, ◌<◌, ◌≤◌, List, [], ◌∷◌, ◌++◌, length, drop, encode_utf8, MatchOption};
 ghost use Rattle.std.specs.List.{prefix_len};
+ghost use Rattle.std.specs.Str.{chars};
 ghost use Rattle.zl_lexer.specs.Names.{is_name_start};
 ghost use Rattle.zl_lexer.specs.Positions.{is_white};
 ghost use Rattle.unicode_ident.specs.Ident.{is_xid_continue};
 
 use unicode_ident::{is_xid_continue, is_xid_start};
 
-/// The first character, and those behind it.
-pub(crate) fn split(text: &[char]) -> Option<(char, &[char])>
-    ensures { MatchOption result (text.now ≡ []) (λ p. text.now ≡ p.0 ∷ p.1.now) }
+/// The first character, and the text behind it. Most characters are ASCII, and these are told by one byte.
+#[inline]
+pub(crate) fn split(text: &str) -> Option<(char, &str)>
+    ensures characters { MatchOption result (chars text.now ≡ []) (λ p. chars text.now ≡ p.0 ∷ chars p.1.now) }
+    ensures bytes { MatchOption result (text.now ≡ []) (λ p. text.now ≡ encode_utf8 p.0 ++ p.1.now) }
 {
-    match text {
-        [first, rest @ ..] => Some((*first, rest)),
-        [] => None,
+    let bytes = text.as_bytes();
+    if bytes.is_empty() {
+        return None;
     }
+    if bytes[0] < 128 {
+        return Some((bytes[0] as char, &text[1..]));
+    }
+    let first = first_of(text);
+    Some((first, &text[first.len_utf8()..]))
+}
+
+/// The first character of a text that may begin with any.
+#[inline(never)]
+fn first_of(text: &str) -> char
+    requires { 0 < length text.now }
+    ensures { (rest : List ℕ) × (text.now ≡ encode_utf8 result ++ rest) }
+{
+    let Some(first) = text.chars().next() else {
+        unreachable!()
+    };
+    first
+}
+
+/// The text behind so many characters.
+pub(crate) fn skip(text: &str, len: usize) -> &str
+    ensures { chars result.now ≡ drop len (chars text.now) }
+{
+    let mut rest = text;
+    for _passed in 0..len {
+        let Some((_, further)) = split(rest) else {
+            break;
+        };
+        rest = further;
+    }
+    rest
 }
 
 pub(crate) fn is_white(c: char) -> bool
@@ -28,10 +62,21 @@ pub(crate) fn is_name_start(c: char) -> bool
     is_xid_start(c) || c == '_'
 }
 
+/// Whether a character may continue a name. Most are ASCII, which takes no table.
+fn continues_name(c: char) -> bool
+    ensures { result ≡ is_xid_continue c }
+{
+    if c.is_ascii() {
+        c.is_ascii_alphanumeric() | (c == '_')
+    } else {
+        is_xid_continue(c)
+    }
+}
+
 /// How many characters at the front may continue a name.
-pub(crate) fn name_len(text: &[char]) -> usize
-    ensures value { result ≡ prefix_len is_xid_continue text.now }
+pub(crate) fn name_len(text: &str) -> usize
+    ensures value { result ≡ prefix_len is_xid_continue (chars text.now) }
     ensures within { result ≤ length text.now }
 {
-    text.iter().take_while(|c| is_xid_continue(**c)).count()
+    text.chars().take_while(|c| continues_name(*c)).count()
 }

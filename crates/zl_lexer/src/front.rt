@@ -1,10 +1,11 @@
 ghost use Rattle.std.specs.Prelude.{◌≡◌, true, false, ◌∷◌};
 ghost use Rattle.std.specs.Char.{is_ascii_digit};
+ghost use Rattle.std.specs.Str.{chars};
 ghost use Rattle.zl_lexer.specs.Names.{is_name_start};
 ghost use Rattle.zl_lexer.specs.Tokens.{Begins, IsNext};
 
 use crate::Sign;
-use crate::character::{is_name_start, is_white, name_len, split};
+use crate::character::{is_name_start, is_white, name_len, skip, split};
 use crate::comment::{comment_len, opens_comment};
 use crate::number::{digits_len, fraction_len};
 use crate::sign::{long_sign, short_sign};
@@ -32,8 +33,8 @@ pub(crate) enum Form {
 }
 
 /// What stands at the front of these characters: white space or a comment, else the longest form of a token.
-pub(crate) fn front_of(text: &[char]) -> Front
-    ensures { Begins text.now result }
+pub(crate) fn front_of(text: &str) -> Front
+    ensures { Begins (chars text.now) result }
 {
     match split(text) {
         None => Front::End,
@@ -41,8 +42,8 @@ pub(crate) fn front_of(text: &[char]) -> Front
     }
 }
 
-fn front_from(first: char, rest: &[char]) -> Front
-    ensures { Begins (first ∷ rest.now) result }
+fn front_from(first: char, rest: &str) -> Front
+    ensures { Begins (first ∷ chars rest.now) result }
 {
     if is_white(first) {
         Front::Passed(1)
@@ -57,8 +58,8 @@ fn front_from(first: char, rest: &[char]) -> Front
 }
 
 #[tactic(auto, using(crate::proofs::FormLemmas::name_next))]
-fn next_token(first: char, rest: &[char]) -> Front
-    ensures { IsNext (first ∷ rest.now) result }
+fn next_token(first: char, rest: &str) -> Front
+    ensures { IsNext (first ∷ chars rest.now) result }
 {
     if is_name_start(first) {
         Front::Token(1 + name_len(rest), Form::Name)
@@ -69,12 +70,12 @@ fn next_token(first: char, rest: &[char]) -> Front
     }
 }
 
-fn number(first: char, rest: &[char]) -> Front
+fn number(first: char, rest: &str) -> Front
     requires { is_ascii_digit first ≡ true }
-    ensures { IsNext (first ∷ rest.now) result }
+    ensures { IsNext (first ∷ chars rest.now) result }
 {
     let digits = digits_len(rest);
-    let fraction = fraction_len(&rest[digits..]);
+    let fraction = fraction_len(skip(rest, digits));
     if fraction == 0 {
         Front::Token(1 + digits, Form::Int)
     } else {
@@ -83,10 +84,10 @@ fn number(first: char, rest: &[char]) -> Front
 }
 
 #[tactic(auto, using(crate::proofs::FormLemmas::long_next, crate::proofs::FormLemmas::short_next, crate::proofs::FormLemmas::bad_next))]
-fn sign(first: char, rest: &[char]) -> Front
+fn sign(first: char, rest: &str) -> Front
     requires name { is_name_start first ≡ false }
     requires number { is_ascii_digit first ≡ false }
-    ensures { IsNext (first ∷ rest.now) result }
+    ensures { IsNext (first ∷ chars rest.now) result }
 {
     match long_sign(first, rest) {
         Some(sign) => Front::Token(2, Form::Sign(sign)),

@@ -1,4 +1,4 @@
-ghost use Rattle.std.specs.Prelude.{◌≡◌, ℕ, ◌<◌, ◌≤◌, ◌^◌, List, length, option_map, Some, IfOk, IfErr, IfSome, OnOk, encode_utf8_all};
+ghost use Rattle.std.specs.Prelude.{◌≡◌, ℕ, ◌<◌, ◌≤◌, ◌^◌, List, length, option_map, Some, IfOk, IfErr, IfSome, OnOk};
 ghost use Rattle.std.specs.Str.{chars};
 ghost use Rattle.zl_value.specs.declared.position.Pos.{Pos as ThePos};
 ghost use Rattle.zl_lexer.specs.declared.token.LexAnswer.{LexAnswer as TheAnswer};
@@ -29,8 +29,7 @@ pub fn lex(alloc: Global, text: &str) -> Result<Lexed, LexAnswer>
     ensures stops { (answer : TheAnswer) → StopsAt text.now answer → Refuses result answer }
     ensures facts { IfOk result (λ l. AreTokens l.tokens l.names l.end) }
 {
-    let characters: Vec<char> = text.chars().collect(alloc)?;
-    read(alloc, text, &characters)
+    read(alloc, text)
 }
 
 /// A text has one list of tokens, or one place at which it stops, and not both.
@@ -42,9 +41,8 @@ pub fn one_reading()
         IsLexed text ts ns e → StopsAt text a → ⊥ }
 {}
 
-fn read(alloc: Global, text: &str, characters: &[char]) -> Result<Lexed, LexAnswer>
-    requires size { length text.now ≤ 1048576 }
-    requires characters { characters.now ≡ chars text.now }
+fn read(alloc: Global, text: &str) -> Result<Lexed, LexAnswer>
+    requires { length text.now ≤ 1048576 }
     ensures ok { IfOk result (λ l. IsLexed text.now l.tokens l.names l.end) }
     ensures err { IfErr result (IsRefusal text.now) }
     ensures facts { IfOk result (λ l. AreTokens l.tokens l.names l.end) }
@@ -52,7 +50,7 @@ fn read(alloc: Global, text: &str, characters: &[char]) -> Result<Lexed, LexAnsw
     let mut tokens = Vec::new(alloc);
     let mut names = Names::new(alloc);
     let mut place = Place::first();
-    let mut rest = characters;
+    let mut rest = text;
     loop {
         match front_of(rest) {
             Front::End => {
@@ -64,15 +62,15 @@ fn read(alloc: Global, text: &str, characters: &[char]) -> Result<Lexed, LexAnsw
             }
             Front::Bad => return Err(LexAnswer::BadToken { at: place.at }),
             Front::Passed(len) => {
-                let (passed, behind) = rest.split_at(len);
-                place = place.behind(passed);
-                rest = behind;
+                let (passed, behind) = place.past(rest, len);
+                let (next, further) = passed.past_white(behind);
+                place = next;
+                rest = further;
             }
             Front::Token(len, form) => {
-                let (word, behind) = rest.split_at(len);
-                let next = place.behind(word);
-                let bytes = &text[place.byte..next.byte];
-                let Some(kind) = token_kind(alloc, &mut names, form, word, bytes)? else {
+                let (next, behind) = place.past(rest, len);
+                let word = &text[place.byte..next.byte];
+                let Some(kind) = token_kind(alloc, &mut names, form, word)? else {
                     return Err(LexAnswer::Literal { at: place.at });
                 };
                 tokens.push(Token {
@@ -93,19 +91,17 @@ fn token_kind(
     alloc: Global,
     names: &mut Names,
     form: Form,
-    characters: &[char],
     text: &str,
 ) -> Result<Option<TokenKind>, AllocError>
     requires room { length names.old < 2 ^ 32 }
-    requires form { HasForm characters.now form }
-    requires text { text.now ≡ encode_utf8_all characters.now }
-    ensures kind { IfOk result (λ kind. kind ≡ option_map (numbered_kind names.old) (kind_of form characters.now)) }
-    ensures names { OnOk result (names.new ≡ with_kind names.old (kind_of form characters.now)) }
+    requires form { HasForm (chars text.now) form }
+    ensures kind { IfOk result (λ kind. kind ≡ option_map (numbered_kind names.old) (kind_of form (chars text.now))) }
+    ensures names { OnOk result (names.new ≡ with_kind names.old (kind_of form (chars text.now))) }
     ensures kept { IfOk result (λ kind. IfSome kind (IsKind (length names.new))) }
 {
     match form {
         Form::Name => Ok(Some(name_kind(alloc, names, text)?)),
-        Form::Int => Ok(int_kind(characters)),
+        Form::Int => Ok(int_kind(text.as_bytes())),
         Form::Float => Ok(float_kind(text)),
         Form::Sign(sign) => Ok(Some(TokenKind::Sign(sign))),
     }

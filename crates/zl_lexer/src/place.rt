@@ -1,7 +1,10 @@
-ghost use Rattle.std.specs.Prelude.{◌≡◌, ◌+◌, ◌≤◌, length, encode_utf8_all, IfOk};
+ghost use Rattle.std.specs.Prelude.{◌≡◌, ◌+◌, ◌≤◌, length, take, drop, encode_utf8_all, IfOk};
+ghost use Rattle.std.specs.Char.{len_utf8};
+ghost use Rattle.std.specs.List.{prefix_len};
 ghost use Rattle.std.specs.Str.{chars};
-ghost use Rattle.zl_lexer.specs.Positions.{first_place, behind};
+ghost use Rattle.zl_lexer.specs.Positions.{is_white, first_place, pos_after, place_after, behind};
 
+use crate::character::{is_white, split};
 use std::alloc::{AllocError, Global};
 use zl_value::Pos;
 
@@ -11,6 +14,21 @@ pub(crate) struct Place {
     /// How many bytes stand before it.
     pub byte: usize,
     pub at: Pos,
+}
+
+/// The place behind a character: a line ends with a line feed, and a column counts characters.
+fn pos_after(mut at: Pos, c: char) -> Pos
+    requires line { at.line ≤ 1048577 }
+    requires column { at.column ≤ 1048577 }
+    ensures { result ≡ pos_after at c }
+{
+    if c == '\n' {
+        at.line += 1;
+        at.column = 1;
+    } else {
+        at.column += 1;
+    }
+    at
 }
 
 impl Place {
@@ -24,23 +42,61 @@ impl Place {
         }
     }
 
-    /// The place behind these characters.
-    pub(crate) fn behind(mut self, text: &[char]) -> Place
-        requires bytes { self.byte + length (encode_utf8_all text.now) ≤ 1048576 }
+    /// The place behind a character.
+    fn after(self, c: char) -> Place
+        requires bytes { self.byte + len_utf8 c ≤ 1048576 }
         requires line { self.at.line ≤ self.byte + 1 }
         requires column { self.at.column ≤ self.byte + 1 }
-        ensures { result ≡ behind self text.now }
+        ensures { result ≡ place_after self c }
     {
-        for c in text {
-            self.byte += c.len_utf8();
-            if *c == '\n' {
-                self.at.line += 1;
-                self.at.column = 1;
-            } else {
-                self.at.column += 1;
-            }
+        Place {
+            byte: self.byte + c.len_utf8(),
+            at: pos_after(self.at, c),
         }
-        self
+    }
+
+    /// The place behind the first characters of a text, so many, and the text behind them.
+    pub(crate) fn past(self, text: &str, len: usize) -> (Place, &str)
+        requires within { len ≤ length (chars text.now) }
+        requires bytes { self.byte + length (encode_utf8_all (chars text.now)) ≤ 1048576 }
+        requires line { self.at.line ≤ self.byte + 1 }
+        requires column { self.at.column ≤ self.byte + 1 }
+        ensures place { result.0 ≡ behind self (take len (chars text.now)) }
+        ensures rest { chars result.1.now ≡ drop len (chars text.now) }
+    {
+        let mut at = self.at;
+        let mut rest = text;
+        for _passed in 0..len {
+            let Some((c, further)) = split(rest) else {
+                unreachable!()
+            };
+            at = pos_after(at, c);
+            rest = further;
+        }
+        let byte = self.byte + (text.len() - rest.len());
+        (Place { byte, at }, rest)
+    }
+
+    /// The place behind the white space at the front of a text, and the text behind it.
+    pub(crate) fn past_white(self, text: &str) -> (Place, &str)
+        requires bytes { self.byte + length (encode_utf8_all (chars text.now)) ≤ 1048576 }
+        requires line { self.at.line ≤ self.byte + 1 }
+        requires column { self.at.column ≤ self.byte + 1 }
+        ensures place { result.0 ≡ behind self (take (prefix_len is_white (chars text.now)) (chars text.now)) }
+        ensures rest { chars result.1.now ≡ drop (prefix_len is_white (chars text.now)) (chars text.now) }
+    {
+        let mut place = self;
+        let mut rest = text;
+        loop {
+            let Some((c, further)) = split(rest) else {
+                return (place, rest);
+            };
+            if !is_white(c) {
+                return (place, rest);
+            }
+            place = place.after(c);
+            rest = further;
+        }
     }
 }
 
@@ -49,17 +105,8 @@ pub fn end_of(alloc: Global, text: &str) -> Result<Pos, AllocError>
     requires { length text.now ≤ 1048576 }
     ensures { IfOk result (λ at. at ≡ (behind first_place (chars text.now)).at) }
 {
-    let Ok(characters) = text.chars().collect::<Vec<char>>(alloc) else {
-        return Err(AllocError);
-    };
-    Ok(end_of_characters(text, &characters))
-}
-
-fn end_of_characters(text: &str, characters: &[char]) -> Pos
-    requires size { length text.now ≤ 1048576 }
-    requires characters { characters.now ≡ chars text.now }
-    ensures { result ≡ (behind first_place (chars text.now)).at }
-{
-    let _ = text;
-    Place::first().behind(characters).at
+    let _ = alloc;
+    let len = text.chars().count();
+    let (end, _) = Place::first().past(text, len);
+    Ok(end.at)
 }

@@ -1,4 +1,5 @@
 ghost use Rattle.std.specs.Prelude.{◌≡◌, [], ◌∷◌};
+ghost use Rattle.std.specs.Str.{chars};
 ghost use Rattle.zl_lexer.specs.Signs.{sign_of, long_sign};
 
 use crate::Sign;
@@ -27,8 +28,8 @@ pub(crate) fn short_sign(c: char) -> Option<Sign>
 }
 
 /// The sign of two characters at the front.
-pub(crate) fn long_sign(first: char, rest: &[char]) -> Option<Sign>
-    ensures { result ≡ long_sign first rest.now }
+pub(crate) fn long_sign(first: char, rest: &str) -> Option<Sign>
+    ensures { result ≡ long_sign first (chars rest.now) }
 {
     match split(rest) {
         Some((second, _)) => sign_of_two(first, second),

@@ -1,10 +1,5 @@
-use Rattle.std.proofs.Common.{rules}
-use Rattle.std.proofs.lemmas.Str.{chars_from_encodes}
 use Rattle.zl_lexer.proofs.AnswerLemmas.{gives_tokens, gives_refusal}
 use Rattle.zl_lexer.proofs.lexer.lex.Goals as goal
-
-pub read-requires-clause-characters : goal.read-requires-clause-characters
-read-requires-clause-characters c = search (rules, chars_from_encodes)
 
 pub returns-clause-only : goal.returns-clause-only
 returns-clause-only c = gives_tokens c.args.text.now c.read.result c.read.ensures.ok c.read.ensures.err
