@@ -3,6 +3,7 @@ ghost use Rattle.zl_ast.specs.ReadingEquations as spec;
 ghost use Rattle.zl_parser.specs.Giving.{Gives};
 
 use crate::expr::below;
+use crate::list::single;
 use crate::stop::Stop;
 use crate::token::{has_sign, next_sign, sign, word};
 use sqlite_items::Items;
@@ -32,8 +33,7 @@ pub(crate) fn event(
     ensures { Gives (λ p. (p.0, p.1.now)) result (spec.event depth tokens.now) }
 {
     let (first, after) = up(alloc, depth, tokens)?;
-    let mut ups = Vec::new(alloc);
-    ups.push(first)?;
+    let mut ups = single(alloc, first)?;
     let mut rest = after;
     for _turn in 0..after.len() {
         let Some((_, behind)) = next_sign(rest, Sign::Bar) else {

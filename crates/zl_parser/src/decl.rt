@@ -11,6 +11,7 @@ ghost use Rattle.zl_parser.specs.Giving.{Gives};
 
 use crate::eqn::eqs;
 use crate::expr::expr;
+use crate::list::single;
 use crate::names::tuple;
 use crate::operator::{next_decl_kind, next_type};
 use crate::stop::Stop;
@@ -71,8 +72,7 @@ fn constant(
 {
     let (_, rest) = sign(tokens, Sign::Equal)?;
     let (value, rest) = expr(alloc, depth, rest)?;
-    let mut results = Items::new(alloc);
-    results.push(value)?;
+    let results = Items::from_vec(single(alloc, value)?);
     let constant = Decl {
         kind: DeclKind::Constant,
         name,
@@ -132,8 +132,7 @@ fn some_params(alloc: Global, tokens: &[Token]) -> Result<(Items<Param>, &[Token
     ensures { Gives (λ p. (p.0, p.1.now)) result (reading.list_of (kind.Sign sign.Comma) spec.param tokens.now) }
 {
     let (first, after) = param(tokens)?;
-    let mut params = Vec::new(alloc);
-    params.push(first)?;
+    let mut params = single(alloc, first)?;
     let mut rest = after;
     for _turn in 0..after.len() {
         let Some((_, behind)) = next_sign(rest, Sign::Comma) else {
@@ -180,8 +179,7 @@ fn results(alloc: Global, depth: u8, tokens: &[Token]) -> Result<(Items<Expr>, &
         return Ok((variables(alloc, names.as_slice())?, rest));
     }
     let (value, rest) = expr(alloc, depth, tokens)?;
-    let mut results = Items::new(alloc);
-    results.push(value)?;
+    let results = Items::from_vec(single(alloc, value)?);
     Ok((results, rest))
 }
 

@@ -10,6 +10,7 @@ ghost use Rattle.zl_parser.specs.Giving.{Gives};
 ghost use Rattle.zl_parser.specs.Blocks.{eqs_below};
 
 use crate::cond::cond;
+use crate::list::single;
 use crate::moves::state_end;
 use crate::names::locals;
 use crate::stop::Stop;
@@ -32,8 +33,7 @@ pub(crate) fn eqs(
     ensures { Gives (λ p. (p.0, p.1.now)) result (spec.read_eqs depth tokens.now) }
 {
     let (first, after) = eqn(alloc, depth, tokens)?;
-    let mut eqs = Vec::new(alloc);
-    eqs.push(first)?;
+    let mut eqs = single(alloc, first)?;
     let mut rest = after;
     for _turn in 0..after.len() {
         let Some((_, behind)) = next_word(rest, Word::And) else {
@@ -86,8 +86,7 @@ fn arms(alloc: Global, depth: u8, tokens: &[Token]) -> Result<(Items<Arm>, &[Tok
         (reading.list_of (kind.Sign sign.Bar) (spec.arm depth (eqs_below depth)) tokens.now) }
 {
     let (first, after) = arm(alloc, depth, tokens)?;
-    let mut arms = Vec::new(alloc);
-    arms.push(first)?;
+    let mut arms = single(alloc, first)?;
     let mut rest = after;
     for _turn in 0..after.len() {
         let Some((_, behind)) = next_sign(rest, Sign::Bar) else {
@@ -158,8 +157,7 @@ fn states(alloc: Global, depth: u8, tokens: &[Token]) -> Result<(Items<State>, &
         (reading.list_of (kind.Sign sign.Bar) (spec.state depth (eqs_below depth)) tokens.now) }
 {
     let (first, after) = state(alloc, depth, tokens)?;
-    let mut states = Vec::new(alloc);
-    states.push(first)?;
+    let mut states = single(alloc, first)?;
     let mut rest = after;
     for _turn in 0..after.len() {
         let Some((_, behind)) = next_sign(rest, Sign::Bar) else {

@@ -10,6 +10,7 @@ ghost use Rattle.zl_ast.specs.ReadingEquations.{expr_below};
 ghost use Rattle.zl_parser.specs.Giving.{Gives};
 ghost use Rattle.zl_parser.specs.Levels.{operator_of, part_of, pref_below, IsNegative};
 
+use crate::list::{put, single};
 use crate::operator::{Level, next_flow_op, next_infix, next_prefix};
 use crate::stop::Stop;
 use crate::token::{has_sign, has_word, name, next_sign, sign, word};
@@ -88,7 +89,7 @@ fn chain(alloc: Global, level: Level, depth: u8, tokens: &[Token]) -> Result<(Ex
             break;
         };
         let (arg, behind) = part(alloc, level, depth, behind)?;
-        links.push(Link { op, at, arg })?;
+        put(&mut links, Link { op, at, arg })?;
         rest = behind;
     }
     Ok((chained(alloc, first, links)?, rest))
@@ -132,8 +133,7 @@ fn comparison(alloc: Global, depth: u8, tokens: &[Token]) -> Result<(Expr, &[Tok
         return Ok((left, rest));
     };
     let (arg, rest) = part(alloc, Level::Comparison, depth, after)?;
-    let mut links = Items::new(alloc);
-    links.push(Link { op, at, arg })?;
+    let links = Items::from_vec(single(alloc, Link { op, at, arg })?);
     let compared = Expr::Chain {
         first: Boxed::new(alloc, left)?,
         rest: links,
@@ -271,8 +271,7 @@ fn exprs(alloc: Global, depth: u8, tokens: &[Token]) -> Result<(Items<Expr>, &[T
         (reading.list_of (kind.Sign sign.Comma) (expr_below depth) tokens.now) }
 {
     let (first, after) = below(alloc, depth, tokens)?;
-    let mut exprs = Vec::new(alloc);
-    exprs.push(first)?;
+    let mut exprs = single(alloc, first)?;
     let mut rest = after;
     for _turn in 0..after.len() {
         let Some((_, behind)) = next_sign(rest, Sign::Comma) else {

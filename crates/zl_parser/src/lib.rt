@@ -6,6 +6,7 @@ mod cond;
 mod decl;
 mod eqn;
 mod expr;
+mod list;
 mod moves;
 mod names;
 mod operator;

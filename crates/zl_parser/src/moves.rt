@@ -4,6 +4,7 @@ ghost use Rattle.zl_ast.specs.ReadingEquations as spec;
 ghost use Rattle.zl_parser.specs.Giving.{Gives, with_front};
 
 use crate::cond::cond;
+use crate::list::single;
 use crate::operator::{next_entry, next_move};
 use crate::stop::Stop;
 use crate::token::{name, next_word};
@@ -51,8 +52,7 @@ fn alternatives(
     ensures { Gives (λ p. (p.0, p.1.now)) result (spec.move_from depth strong at tokens.now) }
 {
     let (first, after) = alternative(alloc, depth, strong, at, tokens)?;
-    let mut moves = Vec::new(alloc);
-    moves.push(first)?;
+    let mut moves = single(alloc, first)?;
     let mut rest = after;
     for _turn in 0..after.len() {
         let Some((at, behind)) = next_word(rest, Word::Else) else {

@@ -7,6 +7,7 @@ ghost use Rattle.zl_ast.specs.Reading as reading;
 ghost use Rattle.zl_ast.specs.ReadingEquations as spec;
 ghost use Rattle.zl_parser.specs.Giving.{Gives, with_front};
 
+use crate::list::put;
 use crate::stop::Stop;
 use crate::token::{name, next_sign, next_word, sign, word};
 use sqlite_items::Items;
@@ -22,7 +23,7 @@ fn more_names(names: Vec<Name>, tokens: &[Token]) -> Result<(Items<Name>, &[Toke
 {
     let (first, after) = name(tokens)?;
     let mut names = names;
-    names.push(first)?;
+    put(&mut names, first)?;
     let mut rest = after;
     for _turn in 0..after.len() {
         let Some((_, behind)) = next_sign(rest, Sign::Comma) else {

@@ -12,6 +12,7 @@ ghost use Rattle.zl_parser.specs.Giving.{Gives};
 
 use crate::cond::event;
 use crate::expr::{args, expr};
+use crate::list::single;
 use crate::names::tuple;
 use crate::stop::Stop;
 use crate::token::{name, next_sign, next_word, sign};
@@ -34,8 +35,7 @@ pub(crate) fn one(
 {
     let (_, rest) = sign(tokens, Sign::Equal)?;
     let (right, rest) = expr(alloc, depth, rest)?;
-    let mut left = Items::new(alloc);
-    left.push(name)?;
+    let left = Items::from_vec(single(alloc, name)?);
     Ok((Eqn::Plain { left, right }, rest))
 }
 
@@ -142,8 +142,7 @@ fn reset_arms(
         (reading.list_of (kind.Sign sign.Bar) (spec.reset_arm depth) tokens.now) }
 {
     let (first, after) = reset_arm(alloc, depth, tokens)?;
-    let mut arms = Vec::new(alloc);
-    arms.push(first)?;
+    let mut arms = single(alloc, first)?;
     let mut rest = after;
     for _turn in 0..after.len() {
         let Some((_, behind)) = next_sign(rest, Sign::Bar) else {

@@ -17,7 +17,7 @@ returns-in_err-next c =
 
 pub loop-turn-preserved : goal.loop-turn-preserved
 loop-turn-preserved c =
-    subst (λ xs. with_front xs (others (kind.Sign sign.Bar) (up c.args.depth) ((length c.in_ok-first.after.now) - (c.loop-turn._turn + 1)) c.in_ok-next.behind.now) ≡ (list_of (kind.Sign sign.Bar) (up c.args.depth) c.args.tokens.now)) (sym c.in_ok-push-2.ensures.items)
+    subst (λ xs. with_front xs (others (kind.Sign sign.Bar) (up c.args.depth) ((length c.in_ok-first.after.now) - (c.loop-turn._turn + 1)) c.in_ok-next.behind.now) ≡ (list_of (kind.Sign sign.Bar) (up c.args.depth) c.args.tokens.now)) (sym c.in_ok-push.ensures.items)
     (list_goes_on (kind.Sign sign.Bar) (up c.args.depth) c.loop-turn.ups.items (list_of (kind.Sign sign.Bar) (up c.args.depth) c.args.tokens.now) c.loop-turn._turn (length c.in_ok-first.after.now) c.loop-turn.rest.now c.in-Some.behind.now c.in-Some.field-0-0 c.in_ok-next.next c.in_ok-next.behind.now
     c.loop-turn-test.true c.in-Some.ensures c.in_ok-next.ensures c.loop-turn.invariant)
 

@@ -26,7 +26,7 @@ eqs-returns-in_err-next t c =
 
 pub eqs-loop-turn-preserved : goal.eqs-loop-turn-preserved
 eqs-loop-turn-preserved t c =
-    subst (λ xs. with_front xs (others (kind.Word word.And) (eqn c.args.depth (eqs_below c.args.depth)) ((length c.in_ok-first.after.now) - (c.loop-turn._turn + 1)) c.in_ok-next.behind.now) ≡ (list_of (kind.Word word.And) (eqn c.args.depth (eqs_below c.args.depth)) c.args.tokens.now)) (sym c.in_ok-push-2.ensures.items)
+    subst (λ xs. with_front xs (others (kind.Word word.And) (eqn c.args.depth (eqs_below c.args.depth)) ((length c.in_ok-first.after.now) - (c.loop-turn._turn + 1)) c.in_ok-next.behind.now) ≡ (list_of (kind.Word word.And) (eqn c.args.depth (eqs_below c.args.depth)) c.args.tokens.now)) (sym c.in_ok-push.ensures.items)
     (list_goes_on (kind.Word word.And) (eqn c.args.depth (eqs_below c.args.depth)) c.loop-turn.eqs.items (list_of (kind.Word word.And) (eqn c.args.depth (eqs_below c.args.depth)) c.args.tokens.now) c.loop-turn._turn (length c.in_ok-first.after.now) c.loop-turn.rest.now c.in-Some.behind.now c.in-Some.field-0-0 c.in_ok-next.next c.in_ok-next.behind.now
     c.loop-turn-test.true c.in-Some.ensures c.in_ok-next.ensures c.loop-turn.invariant)
 
@@ -46,7 +46,7 @@ arms-returns-in_err-next t c =
 
 pub arms-loop-turn-preserved : goal.arms-loop-turn-preserved
 arms-loop-turn-preserved t c =
-    subst (λ xs. with_front xs (others (kind.Sign sign.Bar) (arm c.args.depth (eqs_below c.args.depth)) ((length c.in_ok-first.after.now) - (c.loop-turn._turn + 1)) c.in_ok-next.behind.now) ≡ (list_of (kind.Sign sign.Bar) (arm c.args.depth (eqs_below c.args.depth)) c.args.tokens.now)) (sym c.in_ok-push-2.ensures.items)
+    subst (λ xs. with_front xs (others (kind.Sign sign.Bar) (arm c.args.depth (eqs_below c.args.depth)) ((length c.in_ok-first.after.now) - (c.loop-turn._turn + 1)) c.in_ok-next.behind.now) ≡ (list_of (kind.Sign sign.Bar) (arm c.args.depth (eqs_below c.args.depth)) c.args.tokens.now)) (sym c.in_ok-push.ensures.items)
     (list_goes_on (kind.Sign sign.Bar) (arm c.args.depth (eqs_below c.args.depth)) c.loop-turn.arms.items (list_of (kind.Sign sign.Bar) (arm c.args.depth (eqs_below c.args.depth)) c.args.tokens.now) c.loop-turn._turn (length c.in_ok-first.after.now) c.loop-turn.rest.now c.in-Some.behind.now c.in-Some.field-0-0 c.in_ok-next.next c.in_ok-next.behind.now
     c.loop-turn-test.true c.in-Some.ensures c.in_ok-next.ensures c.loop-turn.invariant)
 
@@ -66,7 +66,7 @@ states-returns-in_err-next t c =
 
 pub states-loop-turn-preserved : goal.states-loop-turn-preserved
 states-loop-turn-preserved t c =
-    subst (λ xs. with_front xs (others (kind.Sign sign.Bar) (state c.args.depth (eqs_below c.args.depth)) ((length c.in_ok-first.after.now) - (c.loop-turn._turn + 1)) c.in_ok-next.behind.now) ≡ (list_of (kind.Sign sign.Bar) (state c.args.depth (eqs_below c.args.depth)) c.args.tokens.now)) (sym c.in_ok-push-2.ensures.items)
+    subst (λ xs. with_front xs (others (kind.Sign sign.Bar) (state c.args.depth (eqs_below c.args.depth)) ((length c.in_ok-first.after.now) - (c.loop-turn._turn + 1)) c.in_ok-next.behind.now) ≡ (list_of (kind.Sign sign.Bar) (state c.args.depth (eqs_below c.args.depth)) c.args.tokens.now)) (sym c.in_ok-push.ensures.items)
     (list_goes_on (kind.Sign sign.Bar) (state c.args.depth (eqs_below c.args.depth)) c.loop-turn.states.items (list_of (kind.Sign sign.Bar) (state c.args.depth (eqs_below c.args.depth)) c.args.tokens.now) c.loop-turn._turn (length c.in_ok-first.after.now) c.loop-turn.rest.now c.in-Some.behind.now c.in-Some.field-0-0 c.in_ok-next.next c.in_ok-next.behind.now
     c.loop-turn-test.true c.in-Some.ensures c.in_ok-next.ensures c.loop-turn.invariant)
 

@@ -23,7 +23,7 @@ exprs-returns-in_err-next t c =
 
 pub exprs-loop-turn-preserved : goal.exprs-loop-turn-preserved
 exprs-loop-turn-preserved t c =
-    subst (λ xs. with_front xs (others (kind.Sign sign.Comma) (expr_below c.args.depth) ((length c.in_ok-first.after.now) - (c.loop-turn._turn + 1)) c.in_ok-next.behind.now) ≡ (list_of (kind.Sign sign.Comma) (expr_below c.args.depth) c.args.tokens.now)) (sym c.in_ok-push-2.ensures.items)
+    subst (λ xs. with_front xs (others (kind.Sign sign.Comma) (expr_below c.args.depth) ((length c.in_ok-first.after.now) - (c.loop-turn._turn + 1)) c.in_ok-next.behind.now) ≡ (list_of (kind.Sign sign.Comma) (expr_below c.args.depth) c.args.tokens.now)) (sym c.in_ok-push.ensures.items)
     (list_goes_on (kind.Sign sign.Comma) (expr_below c.args.depth) c.loop-turn.exprs.items (list_of (kind.Sign sign.Comma) (expr_below c.args.depth) c.args.tokens.now) c.loop-turn._turn (length c.in_ok-first.after.now) c.loop-turn.rest.now c.in-Some.behind.now c.in-Some.field-0-0 c.in_ok-next.next c.in_ok-next.behind.now
     c.loop-turn-test.true c.in-Some.ensures c.in_ok-next.ensures.expr c.loop-turn.invariant)
 
@@ -51,7 +51,7 @@ chain-returns-in_err-arg t c =
 
 pub chain-loop-turn-preserved : goal.chain-loop-turn-preserved
 chain-loop-turn-preserved t c = (
-  subst (λ xs. with_front xs (spec.links (operator_of c.args.level) (part_of c.args.level c.args.depth) (length c.in_ok-first.after.now - (c.loop-turn._turn + 1)) c.in_ok-arg.behind.now) ≡ spec.links (operator_of c.args.level) (part_of c.args.level c.args.depth) (length c.in_ok-first.after.now) c.in_ok-first.after.now) (sym c.in_ok-push.ensures.items)
+  subst (λ xs. with_front xs (spec.links (operator_of c.args.level) (part_of c.args.level c.args.depth) (length c.in_ok-first.after.now - (c.loop-turn._turn + 1)) c.in_ok-arg.behind.now) ≡ spec.links (operator_of c.args.level) (part_of c.args.level c.args.depth) (length c.in_ok-first.after.now) c.in_ok-first.after.now) (sym c.in_ok-put.ensures)
       (chain_goes_on (operator_of c.args.level) (part_of c.args.level c.args.depth) c.loop-turn.links.items c.loop-turn._turn (length c.in_ok-first.after.now) c.in_ok-first.after.now c.loop-turn.rest.now c.in-Some.behind.now c.in-Some.op c.in-Some.at
       c.in_ok-arg.arg c.in_ok-arg.behind.now c.loop-turn-test.true c.in-Some.ensures c.in_ok-arg.ensures c.loop-turn.invariant.0),
   c.loop-turn.invariant.1,

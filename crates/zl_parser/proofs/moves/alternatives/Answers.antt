@@ -15,7 +15,7 @@ returns-in_err-next c =
 pub loop-turn-preserved : goal.loop-turn-preserved
 loop-turn-preserved c =
     subst (λ xs. with_front xs (alts c.args.depth c.args.strong (length c.in_ok-first.after.now - (c.loop-turn._turn + 1)) c.in_ok-next.behind.now) ≡ move_from c.args.depth c.args.strong c.args.at c.args.tokens.now)
-    (sym c.in_ok-push-2.ensures.items)
+    (sym c.in_ok-push.ensures.items)
     (alternatives_go_on c.args.depth c.args.strong c.loop-turn.moves.items (move_from c.args.depth c.args.strong c.args.at c.args.tokens.now) c.loop-turn._turn (length c.in_ok-first.after.now)
     c.loop-turn.rest.now c.in-Some.behind.now c.in-Some.at c.in_ok-next.next c.in_ok-next.behind.now c.loop-turn-test.true c.in-Some.ensures c.in_ok-next.ensures c.loop-turn.invariant)
 

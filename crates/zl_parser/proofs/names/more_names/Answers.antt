@@ -16,7 +16,7 @@ returns-in_err-next c =
 
 pub loop-turn-preserved : goal.loop-turn-preserved
 loop-turn-preserved c =
-    subst (λ xs. with_front xs (others (kind.Sign sign.Comma) name ((length c.in_ok-first.after.now) - (c.loop-turn._turn + 1)) c.in_ok-next.behind.now) ≡ (with_front c.args.names.items (list_of (kind.Sign sign.Comma) name c.args.tokens.now))) (sym c.in_ok-push-2.ensures.items)
+    subst (λ xs. with_front xs (others (kind.Sign sign.Comma) name ((length c.in_ok-first.after.now) - (c.loop-turn._turn + 1)) c.in_ok-next.behind.now) ≡ (with_front c.args.names.items (list_of (kind.Sign sign.Comma) name c.args.tokens.now))) (sym c.in_ok-push.ensures.items)
     (list_goes_on (kind.Sign sign.Comma) name c.loop-turn.names.items (with_front c.args.names.items (list_of (kind.Sign sign.Comma) name c.args.tokens.now)) c.loop-turn._turn (length c.in_ok-first.after.now) c.loop-turn.rest.now c.in-Some.behind.now c.in-Some.field-0-0 c.in_ok-next.next c.in_ok-next.behind.now
     c.loop-turn-test.true c.in-Some.ensures c.in_ok-next.ensures c.loop-turn.invariant)
 
