@@ -8,3 +8,5 @@ pub mod OneTrace
 pub mod Ranks
 pub mod Rows
 pub mod SomeRun
+pub mod ThinForm
+pub mod ThinGrades

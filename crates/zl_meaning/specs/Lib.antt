@@ -26,4 +26,5 @@ pub mod KeepsRuns
 pub mod Decided
 pub mod Reading
 pub mod Laws
+pub mod ThinForm
 pub mod Worked

@@ -1,5 +1,6 @@
 //! Laws of the definitions. Each is a function without a body, whose contract is the law.
 ghost use Rattle.zl_meaning.specs.Laws.{HasOnePrefix, HasOneRun, HasOneTable, ReadsNoMore};
+ghost use Rattle.zl_meaning.specs.ThinForm.{ThinIsGraded, ThinRuns};
 ghost use Rattle.zl_meaning.specs.WellFormed.{IsWellFormed};
 
 use crate::Flat;
@@ -29,4 +30,15 @@ pub fn has_one_prefix()
 /// A form whose equations can be ranked has at most one run with a script.
 pub fn has_one_run()
     ensures { HasOneRun }
+{}
+
+/// The grades of the form of one variable whose derivative is a number.
+pub fn thin_is_graded()
+    ensures { ThinIsGraded }
+{}
+
+/// One variable whose derivative is a number runs up to the horizon, or to a fault where it leaves the width; and that is its
+/// only run.
+pub fn thin_runs()
+    ensures { ThinRuns }
 {}
