@@ -1,0 +1,14 @@
+pub mod PlaceLemmas
+pub mod PartLemmas
+pub mod ExprLemmas
+pub mod EqnLemmas
+pub mod DeclLemmas
+pub mod KindFirstLemmas
+pub mod KindExprLemmas
+pub mod KindEqnLemmas
+pub mod RefusedLemmas
+pub mod ForestLemmas
+pub mod ClassesLemmas
+pub mod ClassesModels
+pub mod ClassesNodes
+pub mod SolveLemmas

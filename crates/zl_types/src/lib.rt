@@ -1,0 +1,29 @@
+//! The rules of types and kinds, and the types of the variables of a program that keeps them.
+#![tactic(auto)]
+
+mod check;
+mod classes;
+mod environment;
+mod eqn_equalities;
+mod equalities;
+mod equality_list;
+mod expr_equalities;
+mod forest;
+mod kind;
+mod kind_context;
+mod kind_declared;
+mod kind_eqn;
+mod kind_expr;
+mod kind_first;
+#[cfg(test)]
+mod kind_tests;
+mod place;
+mod solve;
+#[cfg(test)]
+mod solve_tests;
+#[cfg(test)]
+mod test_trees;
+#[cfg(test)]
+mod tests;
+
+pub use check::check_types;
