@@ -1,0 +1,9 @@
+pub mod PlaceLemmas
+pub mod ListLemmas
+pub mod ConstraintLemmas
+pub mod GivenLemmas
+pub mod NeedLemmas
+pub mod ScopeLemmas
+pub mod MarksLemmas
+pub mod FollowersLemmas
+pub mod SolveLemmas

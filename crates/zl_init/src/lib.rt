@@ -1,0 +1,20 @@
+//! The rule of initialisation: whether each variable and each result has a value from the first instant on.
+#![tactic(auto)]
+
+mod anchored;
+mod check;
+mod eqn;
+mod expr;
+mod followers;
+mod known;
+mod marks;
+mod name_set;
+mod place;
+mod requirements;
+mod solve;
+#[cfg(test)]
+mod solve_tests;
+#[cfg(test)]
+mod tests;
+
+pub use check::check_init;
