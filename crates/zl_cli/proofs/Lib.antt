@@ -1,1 +1,4 @@
+mod LaterRefusals
+mod NamesRefusals
 mod Reports
+mod ThinMeaning

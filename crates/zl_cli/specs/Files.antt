@@ -16,6 +16,7 @@ use Rattle.zl_ast.specs.declared.program.Program.{Program}
 use Rattle.zl_ast.specs.Declarations.{IsProgram as HasTree, nesting_limit}
 use Rattle.zl_driver.specs.HorizonScript.{horizon_of}
 use Rattle.zl_cli.specs.ThinTree.{thin_tree}
+use Rattle.zl_cli.specs.TreeRules.{KeepsRules, IsFirstBroken}
 use Rattle.zl_cli.specs.declared.load.Stop.{Stop}
 use Rattle.zl_cli.specs.declared.load.Stop.TheVariants as stop
 
@@ -63,12 +64,13 @@ Breaks bytes rule.Token at = IsText bytes × StopsAt bytes (answer.BadToken at)
 Breaks bytes rule.Literal at = IsText bytes × StopsAt bytes (answer.Literal at)
 Breaks bytes rule.Parse at = HasNoTree bytes
 Breaks bytes rule.Deep at = HasNoTree bytes
-Breaks bytes rule.Unbuilt at = (program : Program) × IsTreeOf bytes program × (thin_tree program ≡ None) × (at ≡ file_start)
-Breaks bytes _ at = ⊥
+Breaks bytes rule.Unbuilt at =
+    (program : Program) × IsTreeOf bytes program × KeepsRules program × (thin_tree program ≡ None) × (at ≡ file_start)
+Breaks bytes r at = (program : Program) × IsTreeOf bytes program × IsFirstBroken program r at
 
 -- the program of a file that breaks no rule
 abbrev pub IsProgram : List ℕ → Thin → Type 0
-IsProgram bytes thin = (program : Program) × IsTreeOf bytes program × (thin_tree program ≡ Some thin)
+IsProgram bytes thin = (program : Program) × IsTreeOf bytes program × KeepsRules program × (thin_tree program ≡ Some thin)
 
 -- why the bytes of a file give no program: the first rule that they break, or there was no memory
 abbrev pub StopsAtBytes : List ℕ → Stop → Type 0

@@ -5,4 +5,6 @@ pub mod Report
 pub mod StatusNumber
 pub mod Steps
 pub mod Texts
+pub mod ThinMeaning
 pub mod ThinTree
+pub mod TreeRules

@@ -1,5 +1,5 @@
 -- What the steps of reading a file answer. What reading answers is made of these.
-use Rattle.std.specs.Prelude.{◌≡◌, ℕ, List, Option, Some, None, Result, Ok, Err}
+use Rattle.std.specs.Prelude.{◌≡◌, ⊤, ℕ, List, Some, None, Result, Ok, Err}
 use Rattle.zl_value.specs.declared.rule.Rule.TheVariants as rule
 use Rattle.zl_value.specs.declared.thin.Thin.{Thin}
 use Rattle.zl_lexer.specs.declared.token.LexAnswer.TheVariants as answer
@@ -10,6 +10,7 @@ use Rattle.zl_ast.specs.declared.program.Program.{Program}
 use Rattle.zl_ast.specs.Declarations.{IsProgram as HasTree, nesting_limit}
 use Rattle.zl_cli.specs.Files.{file_start}
 use Rattle.zl_cli.specs.ThinTree.{thin_tree}
+use Rattle.zl_cli.specs.TreeRules.{KeepsRules, IsFirstBroken}
 use Rattle.zl_cli.specs.declared.load.Stop.{Stop}
 use Rattle.zl_cli.specs.declared.load.Stop.TheVariants as stop
 
@@ -30,6 +31,13 @@ GivesTree tokens names (Err (stop.Refused rule.Deep at)) = (program : Program) �
 GivesTree tokens names (Err (stop.Refused _ at)) = ⊥
 GivesTree tokens names (Err stop.Unread) = ⊥
 GivesTree tokens names (Err stop.Memory) = Unit {0}
+
+-- the tree keeps the rules
+abbrev pub GivesKept : Program → Result ⊤ Stop → Type 0
+GivesKept program (Ok _) = KeepsRules program
+GivesKept program (Err (stop.Refused r at)) = IsFirstBroken program r at
+GivesKept program (Err stop.Unread) = ⊥
+GivesKept program (Err stop.Memory) = Unit {0}
 
 -- the tree is of the form that is built
 abbrev pub GivesThin : Program → Result Thin Stop → Type 0

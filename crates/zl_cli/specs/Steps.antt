@@ -1,5 +1,5 @@
 -- What the steps of a call answer. The report is made of these.
-use Rattle.std.specs.Prelude.{◌≡◌, ◌⊎◌, ℕ, List}
+use Rattle.std.specs.Prelude.{◌⊎◌, ℕ, List}
 use Rattle.std.specs.List.{concat}
 use Rattle.zl_outside.specs.Pieces.{StandsFor}
 use Rattle.zl_value.specs.Fraction.{Fraction}

@@ -1,7 +1,8 @@
 ghost use Rattle.std.specs.Prelude.{◌≡◌, ◌≤◌, length, IfOk, IfErr};
 ghost use Rattle.zl_cli.specs.Files.{IsText, StopsAtBytes, GivesProgram, LoadsProgram, LoadsHorizon};
-ghost use Rattle.zl_cli.specs.Loading.{GivesTokens, GivesTree, GivesThin};
+ghost use Rattle.zl_cli.specs.Loading.{GivesTokens, GivesTree, GivesKept, GivesThin};
 
+use crate::rules::keep_rules;
 use crate::thin::thin_of;
 use std::alloc::Global;
 use zl_ast::Program;
@@ -9,7 +10,7 @@ use zl_driver::read_horizon;
 use zl_lexer::{LexAnswer, Lexed, end_of, lex};
 use zl_outside::{ReadAnswer, Shelf};
 use zl_parser::{ParseAnswer, parse};
-use zl_value::{Frac, Pos, Rule, Thin};
+use zl_value::{Frac, Pos, Refusal, Rule, Thin};
 
 /// The most bytes that a file has.
 const LONGEST_FILE: usize = 1_048_576;
@@ -95,6 +96,17 @@ fn tree_of(alloc: Global, lexed: Lexed) -> Result<Program, Stop>
     }
 }
 
+/// Whether a tree keeps the rules, or the first that it breaks.
+fn kept(alloc: Global, program: &Program) -> Result<(), Stop>
+    ensures { GivesKept program.now result }
+{
+    match keep_rules(alloc, program) {
+        Ok(()) => Ok(()),
+        Err(Refusal::Broken { rule, at }) => Err(Stop::Refused { rule, at }),
+        Err(Refusal::Memory) => Err(Stop::Memory),
+    }
+}
+
 /// The program of a tree, if it is of the form that is built.
 fn built(alloc: Global, program: &Program) -> Result<Thin, Stop>
     ensures { GivesThin program.now result }
@@ -121,8 +133,12 @@ fn program_of(alloc: Global, bytes: &[u8]) -> Result<Thin, Stop>
         Ok(lexed) => lexed,
         Err(why) => return Err(why),
     };
-    match tree_of(alloc, lexed) {
-        Ok(program) => built(alloc, &program),
+    let program = match tree_of(alloc, lexed) {
+        Ok(program) => program,
+        Err(why) => return Err(why),
+    };
+    match kept(alloc, &program) {
+        Ok(()) => built(alloc, &program),
         Err(why) => Err(why),
     }
 }

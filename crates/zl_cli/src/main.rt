@@ -2,7 +2,9 @@
 #![tactic(auto)]
 
 mod command;
+mod laws;
 mod load;
+mod rules;
 mod status;
 mod tell;
 #[cfg(test)]

@@ -98,7 +98,7 @@ fn other_forms_are_refused(rt: HostRuntime) {
     assert_run(
         &rt,
         rt.alloc(),
-        b"let f(a) = a",
+        b"let hybrid main() = x where rec x = 1.0",
         b"horizon 1\n",
         Status::RefusedFile,
         text,
@@ -156,6 +156,49 @@ fn tokens_and_literals_are_refused_at_their_place(rt: HostRuntime) {
 fn tokens_without_a_tree_are_refused(rt: HostRuntime) {
     let (status, _) = call(&rt, rt.alloc(), &["check", "FILE"], CUT, b"", 0);
     assert_eq!(&rt; status, Status::RefusedFile);
+}
+
+#[test]
+fn rules_of_names_are_refused_at_their_place(rt: HostRuntime) {
+    assert_check(
+        &rt,
+        rt.alloc(),
+        b"let f(a) = a let f(b) = c",
+        Status::RefusedFile,
+        b"refused name-unknown 1:25\n",
+    );
+    assert_check(
+        &rt,
+        rt.alloc(),
+        b"",
+        Status::RefusedFile,
+        b"refused main 1:1\n",
+    );
+}
+
+#[test]
+fn rules_behind_the_names_are_refused_at_their_place(rt: HostRuntime) {
+    assert_check(
+        &rt,
+        rt.alloc(),
+        b"let hybrid main() = x where rec x = 1 +. 2.0",
+        Status::RefusedFile,
+        b"refused type-clash 1:39\n",
+    );
+    assert_check(
+        &rt,
+        rt.alloc(),
+        b"let hybrid main() = x where rec x = pre x +. 1.0",
+        Status::RefusedFile,
+        b"refused kind 1:37\n",
+    );
+    assert_check(
+        &rt,
+        rt.alloc(),
+        b"let hybrid main() = x where rec der x = 1.0",
+        Status::RefusedFile,
+        b"refused init 1:37\n",
+    );
 }
 
 #[test]

@@ -1,0 +1,7 @@
+//! Laws of what the program does. Each is a function without a body, whose contract is the law.
+ghost use Rattle.zl_cli.specs.ThinMeaning.{IsRunAsMeant};
+
+/// What is put for one variable whose derivative is a number is the trace of the one run of the form that such a variable has.
+pub fn thin_run_is_meant()
+    ensures { IsRunAsMeant }
+{}
