@@ -13,3 +13,4 @@ pub mod TreeLaws
 pub mod WorkedExamples
 pub mod Shallower
 pub mod Faults
+pub mod PlaceLemmas

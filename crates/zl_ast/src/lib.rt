@@ -6,7 +6,9 @@ mod eqn;
 mod expr;
 pub mod laws;
 mod name;
+mod name_set;
 mod operator;
+mod place;
 mod program;
 mod scope;
 #[cfg(test)]
@@ -16,6 +18,8 @@ pub use constraint::{Asked, Equality, Requirement, Side};
 pub use eqn::{Arm, Body, Cond, Eqn, Move, ResetArm, State, Up};
 pub use expr::{Expr, Link};
 pub use name::Name;
+pub use name_set::NameSet;
 pub use operator::{FlowOp, Infix, Prefix};
+pub use place::place_of;
 pub use program::{Decl, DeclKind, Param, Program};
 pub use scope::{Scopes, Typing, VarClass, VarInfo};

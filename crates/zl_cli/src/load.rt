@@ -32,7 +32,7 @@ pub enum Stop {
 const START: Pos = Pos { line: 1, column: 1 };
 
 /// The bytes as text, or the first rule that they break before their tokens.
-fn text_of(alloc: Global, bytes: &[u8]) -> Result<&str, Stop>
+fn text_of(bytes: &[u8]) -> Result<&str, Stop>
     ensures text { IfOk result (λ text. IsText bytes.now × (text.now ≡ bytes.now)) }
     ensures stop { IfErr result (StopsAtBytes bytes.now) }
 {
@@ -48,13 +48,10 @@ fn text_of(alloc: Global, bytes: &[u8]) -> Result<&str, Stop>
             let Ok(valid) = std::str::from_utf8(&bytes[..error.valid_up_to()]) else {
                 unreachable!()
             };
-            match end_of(alloc, valid) {
-                Ok(at) => Err(Stop::Refused {
-                    rule: Rule::Utf8,
-                    at,
-                }),
-                Err(_) => Err(Stop::Memory),
-            }
+            Err(Stop::Refused {
+                rule: Rule::Utf8,
+                at: end_of(valid),
+            })
         }
     }
 }
@@ -125,7 +122,7 @@ fn built(alloc: Global, program: &Program) -> Result<Thin, Stop>
 fn program_of(alloc: Global, bytes: &[u8]) -> Result<Thin, Stop>
     ensures { GivesProgram bytes.now result }
 {
-    let text = match text_of(alloc, bytes) {
+    let text = match text_of(bytes) {
         Ok(text) => text,
         Err(why) => return Err(why),
     };

@@ -15,47 +15,8 @@ use Rattle.std.proofs.lemmas.List.{at_drop_more}
 use Rattle.zl_ast.specs.declared.scope.VarInfo.{VarInfo}
 use Rattle.zl_ast.specs.Initialised.{with_place, with_places}
 use Rattle.zl_ast.specs.NamesRules.{place_of, place_step, last_place}
-use Rattle.zl_init.specs.Places.{last_link}
-
-last_places : (at : Pos) (ls : List Link) → last_place at (map (fold-Link Pos Pos place_step (λ l. l.at)) ls) ≡ last_link at ls
-last_places at [] = refl
-last_places at (l ∷ ls) = ap (λ p. last_place p (map (fold-Link Pos Pos place_step (λ l. l.at)) ls)) (fold_out-Link Pos Pos place_step (λ l. l.at) l) ∙ last_places (out-Link l).at ls
-
-pub place-lit : (v : Value) (at : Pos) → place_of (tree.Lit v at) ≡ at
-unfolding place_of
-place-lit v at = ap place_of (sym (tree.rolls-Lit v at)) ∙ fold-roll-Expr Pos Pos place_step (λ l. l.at) (open_expr.Lit v at)
-
-pub place-var : (x : Name) → place_of (tree.Var x) ≡ x.at
-unfolding place_of
-place-var x = ap place_of (sym (tree.rolls-Var x)) ∙ fold-roll-Expr Pos Pos place_step (λ l. l.at) (open_expr.Var x)
-
-pub place-last : (x : Name) (at : Pos) → place_of (tree.Last x at) ≡ at
-unfolding place_of
-place-last x at = ap place_of (sym (tree.rolls-Last x at)) ∙ fold-roll-Expr Pos Pos place_step (λ l. l.at) (open_expr.Last x at)
-
-pub place-call : (f : Name) (args : List Expr) → place_of (tree.Call f args) ≡ f.at
-unfolding place_of
-place-call f args = ap place_of (sym (tree.rolls-Call f args)) ∙ fold-roll-Expr Pos Pos place_step (λ l. l.at) (open_expr.Call f args)
-
-pub place-prefix : (op : Prefix) (at : Pos) (x : Expr) → place_of (tree.Prefix op at x) ≡ at
-unfolding place_of
-place-prefix op at x = ap place_of (sym (tree.rolls-Prefix op at x)) ∙ fold-roll-Expr Pos Pos place_step (λ l. l.at) (open_expr.Prefix op at x)
-
-pub place-chain : (x : Expr) (ls : List Link) → place_of (tree.Chain x ls) ≡ last_link (place_of x) ls
-unfolding place_of
-place-chain x ls = ap place_of (sym (tree.rolls-Chain x ls)) ∙ fold-roll-Expr Pos Pos place_step (λ l. l.at) (open_expr.Chain x ls) ∙ last_places (place_of x) ls
-
-pub place-flow : (op : FlowOp) (at : Pos) (x y : Expr) → place_of (tree.Flow op at x y) ≡ at
-unfolding place_of
-place-flow op at x y = ap place_of (sym (tree.rolls-Flow op at x y)) ∙ fold-roll-Expr Pos Pos place_step (λ l. l.at) (open_expr.Flow op at x y)
-
-pub place-if : (at : Pos) (c x y : Expr) → place_of (tree.If at c x y) ≡ at
-unfolding place_of
-place-if at c x y = ap place_of (sym (tree.rolls-If at c x y)) ∙ fold-roll-Expr Pos Pos place_step (λ l. l.at) (open_expr.If at c x y)
 
 -- one variable more has its place
 pub placed_more : (f g : ℕ → Option Pos) (vs : List VarInfo) (i : ℕ) (d : VarInfo) → i < length vs → f ≡ with_place g (get_or vs i d)
     → with_places f (drop (i + 1) vs) ≡ with_places g (drop i vs)
 placed_more f g vs i d h e = ap (λ p. with_places p (drop (i + 1) vs)) e ∙ sym (at_drop_more (λ ys. with_places g ys) vs i d h)
-
-pub ruleset place_steps = (common_steps, place-lit, place-var, place-last, place-call, place-prefix, place-chain, place-flow, place-if)

@@ -1,4 +1,3 @@
 pub mod Kept
-pub mod Places
 pub mod Marks
 pub mod Solve

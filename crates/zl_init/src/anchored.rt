@@ -7,10 +7,10 @@ ghost use Rattle.zl_ast.specs.Anchored.{defined_ids, together, eqn_given, arm_gi
 ghost use Rattle.zl_ast.specs.Names.{with_ids, ids_of};
 ghost use Rattle.zl_init.specs.Kept.{with_defined, with_locals, narrowed_by, shared_with, shared_with_each, common_after};
 
-use crate::name_set::{NameSet, insert_ids, set_of_ids};
+use crate::name_set::{insert_ids, set_of_ids};
 use sqlite_items::Items;
 use std::alloc::{AllocError, Global};
-use zl_ast::{Arm, Body, Eqn, Name, State};
+use zl_ast::{Arm, Body, Eqn, Name, NameSet, State};
 
 /// What a list of equations gives names, by their numbers.
 #[derive(Drop)]

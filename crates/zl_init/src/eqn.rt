@@ -9,10 +9,12 @@ ghost use Rattle.zl_init.specs.Kept.{known_of, setting_of, body_and_moves};
 
 use crate::expr::{push, push_expr};
 use crate::known::{Free, Known, Setting};
-use crate::name_set::{NameSet, insert_names, set_of_names};
-use crate::place::place_of;
+use crate::name_set::{insert_names, set_of_names};
 use std::alloc::{AllocError, Global};
-use zl_ast::{Arm, Asked, Body, Cond, Eqn, Expr, Move, Name, Requirement, ResetArm, State, Up};
+use zl_ast::{
+    Arm, Asked, Body, Cond, Eqn, Expr, Move, Name, NameSet, Requirement, ResetArm, State, Up,
+    place_of,
+};
 use zl_value::Pos;
 
 /// The place of a variable that is neither anchored nor surely defined: no levels will do.

@@ -9,9 +9,8 @@ ghost use Rattle.zl_ast.specs.Initialised.{ask, ask_each, late_where_each, read_
 ghost use Rattle.zl_init.specs.Kept.{known_of, free_of};
 
 use crate::known::{Free, Known};
-use crate::place::place_of;
 use std::alloc::AllocError;
-use zl_ast::{Asked, Expr, FlowOp, Link, Name, Prefix, Requirement};
+use zl_ast::{Asked, Expr, FlowOp, Link, Name, Prefix, Requirement, place_of};
 use zl_value::Pos;
 
 /// Adds a constraint of the construct at the one place, on what stands at the other.

@@ -5,10 +5,9 @@ ghost use Rattle.zl_ast.specs.Scopes.{variables};
 ghost use Rattle.zl_init.specs.Kept.{known_of, free_of, place_in};
 
 use crate::anchored::{Settled, settled_by};
-use crate::name_set::NameSet;
 use indexmap::IndexMap;
 use std::alloc::{AllocError, Global};
-use zl_ast::{Decl, Name, VarInfo};
+use zl_ast::{Decl, Name, NameSet, VarInfo};
 use zl_lexer::Names;
 use zl_value::Pos;
 

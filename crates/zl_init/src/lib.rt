@@ -9,7 +9,6 @@ mod followers;
 mod known;
 mod marks;
 mod name_set;
-mod place;
 mod requirements;
 mod solve;
 #[cfg(test)]

@@ -13,9 +13,10 @@ ghost use Rattle.zl_init.specs.Kept.{known_of, setting_of};
 use crate::eqn::push_eqns;
 use crate::expr::{push, push_early_each, push_exprs};
 use crate::known::{Free, Known, Setting};
-use crate::name_set::NameSet;
 use std::alloc::{AllocError, Global};
-use zl_ast::{Asked, Decl, DeclKind, Expr, Param, Program, Requirement, Scopes, VarClass, VarInfo};
+use zl_ast::{
+    Asked, Decl, DeclKind, Expr, NameSet, Param, Program, Requirement, Scopes, VarClass, VarInfo,
+};
 use zl_lexer::Names;
 
 fn is_hybrid(kind: DeclKind) -> bool

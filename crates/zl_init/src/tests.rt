@@ -1,15 +1,14 @@
 use crate::anchored::{Settled, settled_by};
 use crate::check_init;
 use crate::known::{Known, Setting, places_of};
-use crate::name_set::NameSet;
 use crate::requirements::push_parts;
 use crate::solve::solve;
 use sqlite_items::{Boxed, Items};
 use std::alloc::{AllocError, Global};
 use std::test::Fail;
 use zl_ast::{
-    Arm, Body, Cond, Decl, DeclKind, Eqn, Expr, FlowOp, Infix, Link, Name, Prefix, Program, Scopes,
-    Up, VarClass, VarInfo,
+    Arm, Body, Cond, Decl, DeclKind, Eqn, Expr, FlowOp, Infix, Link, Name, NameSet, Prefix,
+    Program, Scopes, Up, VarClass, VarInfo,
 };
 use zl_lexer::{Lexed, Names, lex};
 use zl_value::{Pos, Sequence, Value};

@@ -1,20 +1,14 @@
 -- Properties of the characters of a text.
-use Rattle.std.proofs.Common.{◌≡◌, ℕ, zero, suc, ◌+◌, ◌-◌, ◌<◌, ◌≤◌, Bool, true, false, ◌||◌, ◌==◌, cond, List, [], ◌∷◌, ◌++◌, length, get_or, drop, IsUtf8, chars, refl, sym, subst, ◌∙◌, ap, arith}
-use Rattle.std.proofs.Math.Utf8.{encode}
+use Rattle.std.proofs.Common.{◌≡◌, ℕ, zero, suc, ◌+◌, ◌-◌, ◌<◌, ◌≤◌, Bool, true, false, ◌||◌, ◌==◌, cond, List, [], ◌∷◌, length, drop, IsUtf8, chars, refl, sym, ◌∙◌, ap, arith}
 use Rattle.std.specs.List.{prefix_len}
 use Rattle.std.specs.Char.{is_ascii_digit}
 use Rattle.std.proofs.lemmas.List.{length-drop}
-use Rattle.std.proofs.lemmas.Str.{encodes-chars, encode_ascii, length-le-encodes}
+use Rattle.std.proofs.lemmas.Str.{encodes-chars, length-le-encodes}
 use Rattle.zl_lexer.specs.Lengths.{with_mark, signed_len, exponent_len, fraction_len}
 
 -- no more characters than bytes
 pub chars_fit : (text : List ℕ) → IsUtf8 text → length (chars text) ≤ length text
 chars_fit text utf8 = omega (arith, length-le-encodes (chars text), ap length (encodes-chars text utf8))
-
--- a text that begins with ASCII
-pub ascii_first : (text : List ℕ) → 0 < length text → get_or text 0 0 < 128 → text ≡ encode (get_or text 0 0) ++ drop 1 text
-ascii_first [] h low = absurd (omega arith)
-ascii_first (c ∷ text) h low = ap (λ bytes. bytes ++ text) (sym (encode_ascii c low))
 
 -- one character is passed of those that are left
 pub drop_next : (n i : ℕ) (here : List ℕ) (c : ℕ) (rest all : List ℕ) → drop (n - i) here ≡ all → here ≡ c ∷ rest → i < n → drop (n - (i + 1)) rest ≡ all

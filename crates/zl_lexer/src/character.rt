@@ -1,4 +1,4 @@
-ghost use Rattle.std.specs.Prelude.{◌≡◌, ℕ, ◌<◌, ◌≤◌, List, [], ◌∷◌, ◌++◌, length, drop, encode_utf8, MatchOption};
+ghost use Rattle.std.specs.Prelude.{◌≡◌, ◌≤◌, [], ◌∷◌, ◌++◌, length, drop, encode_utf8, MatchOption};
 ghost use Rattle.std.specs.List.{prefix_len};
 ghost use Rattle.std.specs.Str.{chars};
 ghost use Rattle.zl_lexer.specs.Names.{is_name_start};
@@ -7,33 +7,16 @@ ghost use Rattle.unicode_ident.specs.Ident.{is_xid_continue};
 
 use unicode_ident::{is_xid_continue, is_xid_start};
 
-/// The first character, and the text behind it. Most characters are ASCII, and these are told by one byte.
-#[inline]
+/// The first character, and the text behind it.
 pub(crate) fn split(text: &str) -> Option<(char, &str)>
     ensures characters { MatchOption result (chars text.now ≡ []) (λ p. chars text.now ≡ p.0 ∷ chars p.1.now) }
     ensures bytes { MatchOption result (text.now ≡ []) (λ p. text.now ≡ encode_utf8 p.0 ++ p.1.now) }
 {
-    let bytes = text.as_bytes();
-    if bytes.is_empty() {
-        return None;
+    let mut characters = text.chars();
+    match characters.next() {
+        Some(first) => Some((first, characters.as_str())),
+        None => None,
     }
-    if bytes[0] < 128 {
-        return Some((bytes[0] as char, &text[1..]));
-    }
-    let first = first_of(text);
-    Some((first, &text[first.len_utf8()..]))
-}
-
-/// The first character of a text that may begin with any.
-#[inline(never)]
-fn first_of(text: &str) -> char
-    requires { 0 < length text.now }
-    ensures { (rest : List ℕ) × (text.now ≡ encode_utf8 result ++ rest) }
-{
-    let Some(first) = text.chars().next() else {
-        unreachable!()
-    };
-    first
 }
 
 /// The text behind so many characters.

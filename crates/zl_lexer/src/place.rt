@@ -1,11 +1,10 @@
-ghost use Rattle.std.specs.Prelude.{◌≡◌, ◌+◌, ◌≤◌, length, take, drop, encode_utf8_all, IfOk};
+ghost use Rattle.std.specs.Prelude.{◌≡◌, ◌+◌, ◌≤◌, length, take, drop, encode_utf8_all};
 ghost use Rattle.std.specs.Char.{len_utf8};
 ghost use Rattle.std.specs.List.{prefix_len};
 ghost use Rattle.std.specs.Str.{chars};
 ghost use Rattle.zl_lexer.specs.Positions.{is_white, first_place, pos_after, place_after, behind};
 
 use crate::character::{is_white, split};
-use std::alloc::{AllocError, Global};
 use zl_value::Pos;
 
 /// A place between the characters of a text.
@@ -24,10 +23,9 @@ fn pos_after(mut at: Pos, c: char) -> Pos
 {
     if c == '\n' {
         at.line += 1;
-        at.column = 1;
-    } else {
-        at.column += 1;
+        at.column = 0;
     }
+    at.column += 1;
     at
 }
 
@@ -101,12 +99,11 @@ impl Place {
 }
 
 /// The place behind the last character of a text.
-pub fn end_of(alloc: Global, text: &str) -> Result<Pos, AllocError>
+pub fn end_of(text: &str) -> Pos
     requires { length text.now ≤ 1048576 }
-    ensures { IfOk result (λ at. at ≡ (behind first_place (chars text.now)).at) }
+    ensures { result ≡ (behind first_place (chars text.now)).at }
 {
-    let _ = alloc;
     let len = text.chars().count();
     let (end, _) = Place::first().past(text, len);
-    Ok(end.at)
+    end.at
 }

@@ -13,75 +13,38 @@ use Rattle.zl_ast.specs.declared.expr.Expr.TheFolds.{fold-Link, fold-roll-Expr, 
 use Rattle.zl_ast.specs.declared.expr.Link.{Link, out-Link}
 use Rattle.zl_ast.specs.Names.{among}
 use Rattle.zl_ast.specs.NamesRules.{place_of, place_step, last_place, is_variable, variable_step}
-use Rattle.zl_names.specs.Results.{last_link}
 use Rattle.zl_names.proofs.EarliestLemmas.{earliest-append, earliest-none}
-
-last_places : (at : Pos) (ls : List Link) → last_place at (map (fold-Link Pos Pos place_step (λ l. l.at)) ls) ≡ last_link at ls
-last_places at [] = refl
-last_places at (l ∷ ls) = ap (λ p. last_place p (map (fold-Link Pos Pos place_step (λ l. l.at)) ls)) (fold_out-Link Pos Pos place_step (λ l. l.at) l) ∙ last_places (out-Link l).at ls
-
-pub place-lit : (v : Value) (at : Pos) → place_of (tree.Lit v at) ≡ at
-unfolding place_of
-place-lit v at = ap place_of (sym (tree.rolls-Lit v at)) ∙ fold-roll-Expr Pos Pos place_step (λ l. l.at) (open_expr.Lit v at)
 
 pub variable-lit : (visible : List ℕ) (v : Value) (at : Pos) → is_variable visible (tree.Lit v at) ≡ false
 unfolding is_variable
 variable-lit visible v at = ap (is_variable visible) (sym (tree.rolls-Lit v at)) ∙ fold-roll-Expr Bool Bool (variable_step visible) (λ l. false) (open_expr.Lit v at)
 
-pub place-var : (x : Name) → place_of (tree.Var x) ≡ x.at
-unfolding place_of
-place-var x = ap place_of (sym (tree.rolls-Var x)) ∙ fold-roll-Expr Pos Pos place_step (λ l. l.at) (open_expr.Var x)
-
 pub variable-var : (visible : List ℕ) (x : Name) → is_variable visible (tree.Var x) ≡ among visible x.id
 unfolding is_variable
 variable-var visible x = ap (is_variable visible) (sym (tree.rolls-Var x)) ∙ fold-roll-Expr Bool Bool (variable_step visible) (λ l. false) (open_expr.Var x)
-
-pub place-last : (x : Name) (at : Pos) → place_of (tree.Last x at) ≡ at
-unfolding place_of
-place-last x at = ap place_of (sym (tree.rolls-Last x at)) ∙ fold-roll-Expr Pos Pos place_step (λ l. l.at) (open_expr.Last x at)
 
 pub variable-last : (visible : List ℕ) (x : Name) (at : Pos) → is_variable visible (tree.Last x at) ≡ false
 unfolding is_variable
 variable-last visible x at = ap (is_variable visible) (sym (tree.rolls-Last x at)) ∙ fold-roll-Expr Bool Bool (variable_step visible) (λ l. false) (open_expr.Last x at)
 
-pub place-call : (f : Name) (args : List Expr) → place_of (tree.Call f args) ≡ f.at
-unfolding place_of
-place-call f args = ap place_of (sym (tree.rolls-Call f args)) ∙ fold-roll-Expr Pos Pos place_step (λ l. l.at) (open_expr.Call f args)
-
 pub variable-call : (visible : List ℕ) (f : Name) (args : List Expr) → is_variable visible (tree.Call f args) ≡ false
 unfolding is_variable
 variable-call visible f args = ap (is_variable visible) (sym (tree.rolls-Call f args)) ∙ fold-roll-Expr Bool Bool (variable_step visible) (λ l. false) (open_expr.Call f args)
-
-pub place-prefix : (op : Prefix) (at : Pos) (x : Expr) → place_of (tree.Prefix op at x) ≡ at
-unfolding place_of
-place-prefix op at x = ap place_of (sym (tree.rolls-Prefix op at x)) ∙ fold-roll-Expr Pos Pos place_step (λ l. l.at) (open_expr.Prefix op at x)
 
 pub variable-prefix : (visible : List ℕ) (op : Prefix) (at : Pos) (x : Expr) → is_variable visible (tree.Prefix op at x) ≡ false
 unfolding is_variable
 variable-prefix visible op at x = ap (is_variable visible) (sym (tree.rolls-Prefix op at x)) ∙ fold-roll-Expr Bool Bool (variable_step visible) (λ l. false) (open_expr.Prefix op at x)
 
-pub place-chain : (x : Expr) (ls : List Link) → place_of (tree.Chain x ls) ≡ last_link (place_of x) ls
-unfolding place_of
-place-chain x ls = ap place_of (sym (tree.rolls-Chain x ls)) ∙ fold-roll-Expr Pos Pos place_step (λ l. l.at) (open_expr.Chain x ls) ∙ last_places (place_of x) ls
-
 pub variable-chain : (visible : List ℕ) (x : Expr) (ls : List Link) → is_variable visible (tree.Chain x ls) ≡ false
 unfolding is_variable
 variable-chain visible x ls = ap (is_variable visible) (sym (tree.rolls-Chain x ls)) ∙ fold-roll-Expr Bool Bool (variable_step visible) (λ l. false) (open_expr.Chain x ls)
-
-pub place-flow : (op : FlowOp) (at : Pos) (x y : Expr) → place_of (tree.Flow op at x y) ≡ at
-unfolding place_of
-place-flow op at x y = ap place_of (sym (tree.rolls-Flow op at x y)) ∙ fold-roll-Expr Pos Pos place_step (λ l. l.at) (open_expr.Flow op at x y)
 
 pub variable-flow : (visible : List ℕ) (op : FlowOp) (at : Pos) (x y : Expr) → is_variable visible (tree.Flow op at x y) ≡ false
 unfolding is_variable
 variable-flow visible op at x y = ap (is_variable visible) (sym (tree.rolls-Flow op at x y)) ∙ fold-roll-Expr Bool Bool (variable_step visible) (λ l. false) (open_expr.Flow op at x y)
 
-pub place-if : (at : Pos) (c x y : Expr) → place_of (tree.If at c x y) ≡ at
-unfolding place_of
-place-if at c x y = ap place_of (sym (tree.rolls-If at c x y)) ∙ fold-roll-Expr Pos Pos place_step (λ l. l.at) (open_expr.If at c x y)
-
 pub variable-if : (visible : List ℕ) (at : Pos) (c x y : Expr) → is_variable visible (tree.If at c x y) ≡ false
 unfolding is_variable
 variable-if visible at c x y = ap (is_variable visible) (sym (tree.rolls-If at c x y)) ∙ fold-roll-Expr Bool Bool (variable_step visible) (λ l. false) (open_expr.If at c x y)
 
-pub ruleset result_steps = (common_steps, earliest-append, earliest-none, place-lit, variable-lit, place-var, variable-var, place-last, variable-last, place-call, variable-call, place-prefix, variable-prefix, place-chain, variable-chain, place-flow, variable-flow, place-if, variable-if)
+pub ruleset result_steps = (common_steps, earliest-append, earliest-none, variable-lit, variable-var, variable-last, variable-call, variable-prefix, variable-chain, variable-flow, variable-if)

@@ -10,13 +10,12 @@ use crate::defined::outline_eqns;
 use crate::first::First;
 use crate::known::{Known, is_main};
 use crate::main_rule::note_main;
-use crate::name_set::NameSet;
 use crate::outline::note_first_places;
 use crate::used::note_exprs;
 use crate::used_eqn::note_eqns;
 use crate::variables::{insert_visible, note_twice, param_ids, variables};
 use std::alloc::{AllocError, Global};
-use zl_ast::{Decl, Program, Scopes, VarInfo};
+use zl_ast::{Decl, NameSet, Program, Scopes, VarInfo};
 use zl_lexer::Names;
 use zl_value::{Pos, Refusal, Rule, Sequence};
 

@@ -9,12 +9,11 @@ ghost use Rattle.zl_names.specs.Earliest.{earliest};
 ghost use Rattle.zl_names.specs.Kept.{kept};
 
 use crate::first::First;
-use crate::name_set::NameSet;
 use crate::outline::{Outline, entries_of, ids_of, insert_ids, note_clash, under};
 use crate::repeats::{note_repeats, note_strangers};
 use sqlite_items::Items;
 use std::alloc::{AllocError, Global};
-use zl_ast::{Arm, Body, Eqn, Move, Name, State, VarClass};
+use zl_ast::{Arm, Body, Eqn, Move, Name, NameSet, State, VarClass};
 use zl_value::Rule;
 
 /// The left side of a plain equation. A name that it has twice breaks a rule.

@@ -4,10 +4,9 @@ ghost use Rattle.zl_ast.specs.NamesRules.{built_in, with_constant, with_signatur
 ghost use Rattle.zl_ast.specs.Names as spec;
 ghost use Rattle.zl_names.specs.Kept.{known_of};
 
-use crate::name_set::NameSet;
 use indexmap::IndexMap;
 use std::alloc::{AllocError, Global};
-use zl_ast::{Decl, DeclKind};
+use zl_ast::{Decl, DeclKind, NameSet};
 use zl_lexer::Names;
 
 /// What is known of names in a declaration, other than its variables.

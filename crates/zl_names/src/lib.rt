@@ -6,7 +6,6 @@ mod defined;
 mod first;
 mod known;
 mod main_rule;
-mod name_set;
 mod outline;
 mod repeats;
 #[cfg(test)]

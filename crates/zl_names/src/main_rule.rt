@@ -5,39 +5,10 @@ ghost use Rattle.std.specs.Prelude.{◌≡◌};
 ghost use Rattle.zl_ast.specs.NamesRules as rules;
 ghost use Rattle.zl_ast.specs.NamesRules.{results_broken, main_broken};
 ghost use Rattle.zl_names.specs.Earliest.{earliest};
-ghost use Rattle.zl_names.specs.Results as spec;
 
 use crate::first::First;
-use crate::name_set::NameSet;
-use zl_ast::{Decl, DeclKind, Expr, Link};
-use zl_value::{Pos, Rule};
-
-/// The place of the last operator of a chain that begins at this place.
-fn last_link(begin: Pos, links: &[Link]) -> Pos
-    ensures { result ≡ spec.last_link begin links.now }
-{
-    let mut at = begin;
-    for link in links {
-        at = link.at;
-    }
-    at
-}
-
-/// The place of a result: that of its outermost operator, or of its first token.
-fn place_of(expr: &Expr) -> Pos
-    ensures { result ≡ rules.place_of expr.now }
-{
-    match expr {
-        Expr::Lit { at, .. } => *at,
-        Expr::Var(name) => name.at,
-        Expr::Last { at, .. } => *at,
-        Expr::Call { name, .. } => name.at,
-        Expr::Prefix { at, .. } => *at,
-        Expr::Chain { first, rest } => last_link(place_of(first.get()), rest.as_slice()),
-        Expr::Flow { at, .. } => *at,
-        Expr::If { at, .. } => *at,
-    }
-}
+use zl_ast::{Decl, DeclKind, Expr, NameSet, place_of};
+use zl_value::Rule;
 
 /// Whether the expression is one of these variables.
 fn is_variable(visible: &NameSet, expr: &Expr) -> bool

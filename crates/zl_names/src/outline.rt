@@ -8,11 +8,10 @@ ghost use Rattle.zl_names.specs.Earliest.{earliest};
 ghost use Rattle.zl_names.specs.Kept.{kept, joined, kept_under};
 
 use crate::first::First;
-use crate::name_set::NameSet;
 use crate::repeats::{insert_all, note_strangers};
 use sqlite_items::Items;
 use std::alloc::{AllocError, Global};
-use zl_ast::{Name, VarClass, VarInfo};
+use zl_ast::{Name, NameSet, VarClass, VarInfo};
 use zl_value::Rule;
 
 /// What equations declare and define, less what their locals hold.

@@ -3,9 +3,8 @@ ghost use Rattle.zl_ast.specs.Names.{repeats, strangers, with_ids, ids_of};
 ghost use Rattle.zl_names.specs.Earliest.{earliest};
 
 use crate::first::First;
-use crate::name_set::NameSet;
 use std::alloc::{AllocError, Global};
-use zl_ast::Name;
+use zl_ast::{Name, NameSet};
 use zl_value::Rule;
 
 /// Takes note of the names whose number came before, and gives the numbers.

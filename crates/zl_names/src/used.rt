@@ -7,8 +7,7 @@ ghost use Rattle.zl_names.specs.Earliest.{earliest};
 
 use crate::first::First;
 use crate::known::Known;
-use crate::name_set::NameSet;
-use zl_ast::{Expr, Link, Name};
+use zl_ast::{Expr, Link, Name, NameSet};
 use zl_value::{Pos, Rule};
 
 fn note_read(known: &Known, visible: &NameSet, name: Name, first: &mut First)

@@ -8,11 +8,10 @@ ghost use Rattle.zl_names.specs.Earliest.{earliest};
 
 use crate::first::First;
 use crate::known::Known;
-use crate::name_set::NameSet;
 use crate::repeats::insert_all;
 use crate::used::note_expr;
 use std::alloc::AllocError;
-use zl_ast::{Arm, Body, Cond, Eqn, Expr, Move, ResetArm, State, Up};
+use zl_ast::{Arm, Body, Cond, Eqn, Expr, Move, NameSet, ResetArm, State, Up};
 
 fn note_ups(known: &Known, visible: &NameSet, ups: &[Up], first: &mut First)
     ensures { first.new.found ≡ earliest first.old.found (ups_uses (known_of known.now) ups.now visible.now) }

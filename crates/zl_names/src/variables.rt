@@ -10,10 +10,9 @@ ghost use Rattle.zl_ast.specs.Scopes.{first_entries};
 ghost use Rattle.zl_names.specs.Earliest.{earliest};
 
 use crate::first::First;
-use crate::name_set::NameSet;
 use crate::outline::is_defined;
 use std::alloc::{AllocError, Global};
-use zl_ast::{Param, VarClass, VarInfo};
+use zl_ast::{NameSet, Param, VarClass, VarInfo};
 use zl_value::Rule;
 
 pub(crate) fn param_ids(alloc: Global, params: &[Param]) -> Result<NameSet, AllocError>

@@ -1,4 +1,3 @@
-pub mod PlaceLemmas
 pub mod PartLemmas
 pub mod ExprLemmas
 pub mod EqnLemmas

@@ -8,11 +8,10 @@ ghost use Rattle.zl_ast.specs.TypeEqualities.{nothing, with_places, before_all, 
 ghost use Rattle.zl_ast.specs.TypeEqualities as spec;
 ghost use Rattle.zl_ast.specs.NamesRules.{place_of};
 
-use crate::place::place_of;
 use indexmap::IndexMap;
 use std::alloc::{AllocError, Global};
 use std::marker::Model;
-use zl_ast::{Decl, Expr, Param, VarInfo};
+use zl_ast::{Decl, Expr, Param, VarInfo, place_of};
 use zl_lexer::Names;
 use zl_value::{Pos, Sequence};
 

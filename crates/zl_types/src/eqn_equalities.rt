@@ -12,9 +12,8 @@ ghost use Rattle.zl_types.specs.Environments.{environment_of};
 use crate::environment::Environment;
 use crate::equality_list::EqualityList;
 use crate::expr_equalities::push_expr;
-use crate::place::place_of;
 use std::alloc::AllocError;
-use zl_ast::{Arm, Body, Cond, Eqn, Expr, Move, Name, ResetArm, State, Up};
+use zl_ast::{Arm, Body, Cond, Eqn, Expr, Move, Name, ResetArm, State, Up, place_of};
 use zl_value::{Pos, Ty};
 
 /// The name that the expression calls, if it is a call.

@@ -9,9 +9,8 @@ ghost use Rattle.zl_types.specs.Environments.{environment_of};
 
 use crate::environment::Environment;
 use crate::equality_list::EqualityList;
-use crate::place::place_of;
 use std::alloc::AllocError;
-use zl_ast::{Expr, Infix, Link, Name, Prefix};
+use zl_ast::{Expr, Infix, Link, Name, Prefix, place_of};
 use zl_value::{Pos, Ty, Value};
 
 fn type_of(value: Value) -> Ty

@@ -17,7 +17,6 @@ mod kind_expr;
 mod kind_first;
 #[cfg(test)]
 mod kind_tests;
-mod place;
 mod solve;
 #[cfg(test)]
 mod solve_tests;

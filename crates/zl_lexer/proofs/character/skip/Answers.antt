@@ -1,4 +1,4 @@
-use Rattle.std.proofs.Common.{◌-◌, drop, chars, rules, arith}
+use Rattle.std.proofs.Common.{◌-◌, drop, chars, rules}
 use Rattle.zl_lexer.proofs.TextLemmas.{drop_next, drop_done, drop_ends}
 use Rattle.zl_lexer.proofs.character.skip.Goals as goal
 

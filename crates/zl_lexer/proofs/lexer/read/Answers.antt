@@ -1,4 +1,4 @@
-use Rattle.std.proofs.Common.{length, take, chars, refl, sym, ap, subst, ◌∙◌, rules}
+use Rattle.std.proofs.Common.{length, chars, refl, sym, ap, subst, ◌∙◌, rules}
 use Rattle.std.specs.Prelude.{IfSome}
 use Rattle.std.specs.List.{prefix_len}
 use Rattle.zl_lexer.specs.Positions.{is_white, behind}

@@ -5,7 +5,7 @@ ghost use Rattle.std.specs.Prelude.{◌≡◌, map};
 ghost use Rattle.zl_ast.specs.NamesRules as rules;
 ghost use Rattle.zl_ast.specs.declared.expr.Link.{out-Link};
 
-use zl_ast::{Expr, Link};
+use crate::{Expr, Link};
 use zl_value::Pos;
 
 /// The place of the last operator, or of what stands before the operators where there is none.
@@ -19,8 +19,8 @@ fn last_place(begin: Pos, links: &[Link]) -> Pos
     at
 }
 
-/// The place of an expression: that of its outermost operator, or of its first token.
-pub(crate) fn place_of(expr: &Expr) -> Pos
+/// The place of an expression: that of its outermost operator, in a chain the last one, or else of its first token.
+pub fn place_of(expr: &Expr) -> Pos
     ensures { result ≡ rules.place_of expr.now }
 {
     match expr {

@@ -7,7 +7,7 @@ use std::marker::Model;
 
 /// Numbers of names, each once, in the order in which they came.
 #[derive(Drop)]
-pub(crate) struct NameSet {
+pub struct NameSet {
     ids: IndexSet<u32>,
 }
 
@@ -20,7 +20,8 @@ impl Model for NameSet {
 }
 
 impl NameSet {
-    pub(crate) fn new(alloc: Global) -> NameSet
+    /// The set without numbers.
+    pub fn new(alloc: Global) -> NameSet
         ensures { result ≡ [] }
     {
         NameSet {
@@ -28,19 +29,22 @@ impl NameSet {
         }
     }
 
-    pub(crate) fn len(&self) -> usize
+    /// How many numbers there are.
+    pub fn len(&self) -> usize
         ensures { result ≡ length self.now }
     {
         self.ids.len()
     }
 
-    pub(crate) fn contains(&self, id: u32) -> bool
+    /// Whether the number is one of these.
+    pub fn contains(&self, id: u32) -> bool
         ensures { result ≡ among self.now id }
     {
         self.ids.contains(&id)
     }
 
-    pub(crate) fn insert(&mut self, id: u32) -> Result<(), AllocError>
+    /// Puts the number behind the others, unless it is one of them; fails for want of memory.
+    pub fn insert(&mut self, id: u32) -> Result<(), AllocError>
         ensures { OnOk result (self.new ≡ with_id self.old id) }
     {
         let Ok(_) = self.ids.insert(id) else {
@@ -49,14 +53,15 @@ impl NameSet {
         Ok(())
     }
 
-    pub(crate) fn insert_if(&mut self, wanted: bool, id: u32) -> Result<(), AllocError>
+    /// Does so if it is wanted.
+    pub fn insert_if(&mut self, wanted: bool, id: u32) -> Result<(), AllocError>
         ensures { OnOk result (self.new ≡ (if wanted then with_id self.old id else self.old)) }
     {
         if wanted { self.insert(id) } else { Ok(()) }
     }
 
     /// Keeps the first `len` numbers.
-    pub(crate) fn truncate(&mut self, len: usize)
+    pub fn truncate(&mut self, len: usize)
         ensures { self.new ≡ take len self.old }
     {
         self.ids.truncate(len);
