@@ -1,4 +1,6 @@
 mod LaterRefusals
 mod NamesRefusals
+pub mod ReadTrees
 mod Reports
+mod ThinExpansion
 mod ThinMeaning

@@ -8,3 +8,4 @@ pub mod Texts
 pub mod ThinMeaning
 pub mod ThinTree
 pub mod TreeRules
+pub mod ThinExpansion

@@ -17,6 +17,8 @@ use Rattle.zl_ast.specs.Kinds.{misplaced}
 use Rattle.zl_ast.specs.TypesRules.{IsTypesRefusedAt}
 use Rattle.zl_ast.specs.Initialised.{requirements}
 use Rattle.zl_ast.specs.Levels.{HasLevels, IsUnmet}
+use Rattle.zl_meaning.specs.FlatForm.{FlatForm}
+use Rattle.zl_expand.specs.Limits.{FitsIn, IsTooLarge}
 
 -- the tree keeps the rules of names
 abbrev pub KeepsNames : Program → Type 0
@@ -32,11 +34,24 @@ pub record KeepsTypes (p : Program) : Type 0 where
 abbrev pub KeepsInitialisation : Program → Type 0
 KeepsInitialisation p = HasLevels (requirements p)
 
+-- the tree keeps the limits of expansion: it has one typing, and no count of what it expands to passes its limit
+pub record KeepsLimits (p : Program) : Type 0 where
+  pub types : List (List Ty)
+  pub typing : IsTyping (equalities p) (scopes p) types
+  pub fits : FitsIn p (scopes p) types
+
+-- the tree has one typing, and a count of what it expands to passes its limit
+pub record PassesLimits (p : Program) (at : Pos) : Type 0 where
+  pub types : List (List Ty)
+  pub typing : IsTyping (equalities p) (scopes p) types
+  pub too_large : IsTooLarge p (scopes p) types at
+
 -- A tree that keeps the rules of every stage.
 pub record KeepsRules (p : Program) : Type 0 where
   pub names : KeepsNames p
   pub types : KeepsTypes p
   pub initialisation : KeepsInitialisation p
+  pub limits : KeepsLimits p
 
 -- the first rule that a tree breaks, and where
 abbrev pub IsFirstBroken : Program → Rule → Pos → Type 0
@@ -52,6 +67,7 @@ IsFirstBroken p rule.TypeClash at = KeepsNames p × IsTypesRefusedAt p rule.Type
 IsFirstBroken p rule.TypeOpen at = KeepsNames p × IsTypesRefusedAt p rule.TypeOpen at
 IsFirstBroken p rule.Kind at = KeepsNames p × IsTypesRefusedAt p rule.Kind at
 IsFirstBroken p rule.Init at = KeepsNames p × KeepsTypes p × IsUnmet (requirements p) at
+IsFirstBroken p rule.ExpandSize at = KeepsNames p × KeepsTypes p × KeepsInitialisation p × PassesLimits p at
 IsFirstBroken p _ at = ⊥
 
 -- why a tree isn't said to keep the rules: the first that it breaks, or there was no memory
@@ -70,3 +86,8 @@ GivesTypes p (Err refusal) = IsBrokenBy p refusal
 abbrev pub GivesLevels : Program → Result ⊤ Refusal → Type 0
 GivesLevels p (Ok _) = KeepsInitialisation p
 GivesLevels p (Err refusal) = IsBrokenBy p refusal
+
+-- a tree that keeps the rules before is expanded, unless it passes the limits
+abbrev pub GivesFlat : Program → Result FlatForm Refusal → Type 0
+GivesFlat p (Ok form) = KeepsLimits p
+GivesFlat p (Err refusal) = IsBrokenBy p refusal

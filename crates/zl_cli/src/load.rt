@@ -1,4 +1,6 @@
 ghost use Rattle.std.specs.Prelude.{◌≡◌, ◌≤◌, length, IfOk, IfErr};
+ghost use Rattle.zl_lexer.specs.Facts.{AreTokens};
+ghost use Rattle.zl_expand.specs.Checked.{IsRead};
 ghost use Rattle.zl_cli.specs.Files.{IsText, StopsAtBytes, GivesProgram, LoadsProgram, LoadsHorizon};
 ghost use Rattle.zl_cli.specs.Loading.{GivesTokens, GivesTree, GivesKept, GivesThin};
 
@@ -59,7 +61,8 @@ fn text_of(bytes: &[u8]) -> Result<&str, Stop>
 /// The tokens of a text, or the first place at which it has none.
 fn tokens_of(alloc: Global, text: &str) -> Result<Lexed, Stop>
     requires { length text.now ≤ 1048576 }
-    ensures { GivesTokens text.now result }
+    ensures tokens { GivesTokens text.now result }
+    ensures facts { IfOk result (λ l. AreTokens l.tokens l.names l.end) }
 {
     match lex(alloc, text) {
         Ok(lexed) => Ok(lexed),
@@ -76,8 +79,11 @@ fn tokens_of(alloc: Global, text: &str) -> Result<Lexed, Stop>
 }
 
 /// The tree of a text's tokens, if they have one.
+#[tactic(auto, using(crate::proofs::ReadTrees::read_of))]
 fn tree_of(alloc: Global, lexed: Lexed) -> Result<Program, Stop>
-    ensures { GivesTree lexed.tokens lexed.names result }
+    requires { AreTokens lexed.tokens lexed.names lexed.end }
+    ensures tree { GivesTree lexed.tokens lexed.names result }
+    ensures read { IfOk result IsRead }
 {
     match parse(alloc, lexed) {
         Ok(program) => Ok(program),
@@ -95,6 +101,7 @@ fn tree_of(alloc: Global, lexed: Lexed) -> Result<Program, Stop>
 
 /// Whether a tree keeps the rules, or the first that it breaks.
 fn kept(alloc: Global, program: &Program) -> Result<(), Stop>
+    requires { IsRead program.now }
     ensures { GivesKept program.now result }
 {
     match keep_rules(alloc, program) {

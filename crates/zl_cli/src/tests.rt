@@ -3,6 +3,7 @@ use crate::zpc::zpc;
 use std::alloc::Global;
 use std::process::Abort;
 use zl_outside::{MemShelf, MemSink};
+use zl_value::print_number;
 
 const RAMP: &[u8] = b"let hybrid main() = x where rec der x = 1.0 init 0.0";
 
@@ -244,4 +245,38 @@ fn failing_put_cuts_the_trace(rt: HostRuntime) {
     );
     assert_eq!(&rt; status, Status::WriteFault);
     assert_eq!(&rt; sink.bytes(), b"0 #0 x=0\n3/2 - x=3/2\n".as_slice());
+}
+
+/// A program whose automaton has this many states.
+fn automaton(rt: &impl Abort, alloc: Global, states: u64) -> Vec<u8> {
+    let mut text = Vec::new(alloc);
+    text.extend_from_slice(b"let hybrid main() = x where rec der x = 1.0 init 0.0 and automaton\n")
+        .expect(rt, "there is memory");
+    for number in 0..states {
+        text.extend_from_slice(b"| S").expect(rt, "there is memory");
+        print_number(&mut text, number).expect(rt, "there is memory");
+        text.extend_from_slice(b" -> do done\n")
+            .expect(rt, "there is memory");
+    }
+    text
+}
+
+#[test]
+fn states_fill_the_blocks_up_to_their_limit(rt: HostRuntime) {
+    let most = automaton(&rt, rt.alloc(), 32767);
+    assert_check(
+        &rt,
+        rt.alloc(),
+        most.as_slice(),
+        Status::RefusedFile,
+        b"refused unbuilt 1:1\n",
+    );
+    let more = automaton(&rt, rt.alloc(), 32768);
+    assert_check(
+        &rt,
+        rt.alloc(),
+        more.as_slice(),
+        Status::RefusedFile,
+        b"refused expand-size 1:12\n",
+    );
 }

@@ -34,10 +34,11 @@ IsHybridBy f hybrid parent Main = Unit {0}
 IsHybridBy f hybrid parent (Arm of arm) = hybrid ≡ false
 IsHybridBy f hybrid parent kind = option_map (is_hybrid_block f) parent ≡ Some hybrid
 
--- the context of a body in the copy of a call: a call in a combinatorial context has a combinatorial body
+-- the context of a body and of the arguments in the copy of a call: those of a call in a combinatorial context are
+-- combinatorial, with `last` where the call's own context is
 abbrev pub body_context : Context → Context → Context
 body_context block Plainly = Plainly
-body_context block WithLast = Plainly
+body_context block WithLast = WithLast
 body_context block Discrete = block
 body_context block Hybrid = block
 
@@ -111,8 +112,8 @@ MarksNothing _ = Unit {0}
 -- combinatorial one
 abbrev pub IsUseIn : Context → Use → Type 0
 IsUseIn c (SlopeOf call) = c ≡ Hybrid
-IsUseIn c (StartOf call b) = c ≡ Plainly → ⊥
-IsUseIn c TestOf = c ≡ Plainly → ⊥
+IsUseIn c (StartOf call b) = (c ≡ Discrete) ⊎ (c ≡ Hybrid)
+IsUseIn c TestOf = (c ≡ Discrete) ⊎ (c ≡ Hybrid)
 IsUseIn c _ = Unit {0}
 
 -- the call of the copy that the equation of this use stands in; `own` is that of the occurrence

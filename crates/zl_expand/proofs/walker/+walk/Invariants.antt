@@ -1,0 +1,7 @@
+use Rattle.zl_expand.proofs.walker.+walk.Given as goal
+
+abbrev pub decreases-walk_expr : goal.decreases-walk_expr
+decreases-walk_expr l = l.room
+
+abbrev pub decreases-walk_eqns : goal.decreases-walk_eqns
+decreases-walk_eqns l = l.room

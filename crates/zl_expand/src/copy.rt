@@ -1,0 +1,129 @@
+//! The copies of declarations' bodies.
+#![tactic(auto, using(crate::proofs::WalkLaws::walking))]
+
+ghost use Rattle.std.specs.Prelude.{◌≡◌, map, OnOk, IfOk};
+ghost use Rattle.zl_expand.specs.Parts.{joined, some_places, some_definers};
+ghost use Rattle.zl_expand.specs.Instances.{callee};
+ghost use Rattle.zl_expand.specs.Expansion.{param_place, argument_definers};
+ghost use Rattle.zl_expand.specs.Walks.{Walks};
+ghost use Rattle.zl_expand.specs.Kept.{counters, instance_in, inside_in};
+
+use crate::decls::Known;
+use crate::here::{Here, Root};
+use crate::instance::Instance;
+use crate::numbering::own_places;
+use crate::parts::{Parts, next};
+use crate::walker::Walker;
+use std::alloc::{AllocError, Global};
+use zl_ast::{Decl, Eqn, Expr, Param};
+use zl_meaning::Definer;
+
+/// The places of the parameters.
+pub(crate) fn add_params(
+    alloc: Global,
+    instance: &Instance,
+    here: Here,
+    params: &[Param],
+    out: &mut Parts,
+) -> Result<(), AllocError>
+    ensures { OnOk result (out.new ≡ joined out.old (some_places (map (param_place (instance_in instance.now) here) params.now))) }
+{
+    for param in params {
+        let Some(x) = instance.variable(param.name.id) else {
+            return Err(AllocError);
+        };
+        out.add_place(here.place(alloc, x.ty, param.name.id, param.name.at))?;
+    }
+    Ok(())
+}
+
+/// Each parameter is defined by its argument. The first has this place.
+fn add_arguments(
+    here: Here,
+    first: u32,
+    params: &[Param],
+    arguments: &[Root],
+    out: &mut Parts,
+) -> Result<(), AllocError>
+    ensures { OnOk result (out.new ≡ joined out.old (some_definers (argument_definers here first params.now arguments.now))) }
+{
+    if params.len() != arguments.len() {
+        return Err(AllocError);
+    }
+    let mut place = first;
+    for argument in arguments {
+        out.define(
+            place,
+            Definer::Plain {
+                block: here.block,
+                occ: argument.occ,
+            },
+        )?;
+        place = next(place)?;
+    }
+    Ok(())
+}
+
+impl<
+    X: Fn(Global, &Instance<'_>, Here, u32, &Expr, &mut Parts) -> Result<Root, AllocError>,
+    Q: Fn(Global, &Instance<'_>, Here, u32, &[Eqn], &mut Parts) -> Result<(), AllocError>,
+> Walker<X, Q> {
+    /// A copy of the body of a declaration before, for a call; it answers the results.
+    pub(crate) fn copy(
+        &self,
+        instance: &Instance,
+        here: Here,
+        name: u32,
+        arguments: &[Root],
+        out: &mut Parts,
+    ) -> Result<Vec<Root>, AllocError>
+        requires { Walks self.now.room (X.pre self.now.expr) (X.post self.now.expr) (Q.pre self.now.eqns) (Q.post self.now.eqns) }
+        ensures made { OnOk result (out.new ≡ joined out.old (callee ((instance_in instance.now).callees name) here arguments.now (counters out.old)).parts) }
+        ensures results { IfOk result (λ r. r.items ≡ (callee ((instance_in instance.now).callees name) here arguments.now (counters out.old)).results) }
+    {
+        let declared = instance.known.declared;
+        let number = match declared.index.find(name) {
+            Some(number) => number,
+            None => return Err(AllocError),
+        };
+        if number >= instance.known.number {
+            return Err(AllocError);
+        }
+        let Some(decl) = declared.decls.get(number) else {
+            return Err(AllocError);
+        };
+        let known = Known {
+            declared,
+            sizes: instance.known.sizes,
+            number,
+        };
+        let first = out.next_place()?;
+        let own = own_places(self.alloc, &known, decl, first)?;
+        let callee = Instance {
+            known: &known,
+            own: own.as_slice(),
+            base: instance.base,
+            block: here.block,
+        };
+        add_params(self.alloc, &callee, here, decl.params.as_slice(), out)?;
+        add_arguments(here, first, decl.params.as_slice(), arguments, out)?;
+        self.walk_body(&callee, here, decl, out)
+    }
+
+    /// The results and the equations of a copy whose parameters are made.
+    pub(crate) fn walk_body(
+        &self,
+        instance: &Instance,
+        here: Here,
+        decl: &Decl,
+        out: &mut Parts,
+    ) -> Result<Vec<Root>, AllocError>
+        requires { Walks self.now.room (X.pre self.now.expr) (X.post self.now.expr) (Q.pre self.now.eqns) (Q.post self.now.eqns) }
+        ensures made { OnOk result (out.new ≡ joined out.old (inside_in instance.now decl.now here (counters out.old)).parts) }
+        ensures results { IfOk result (λ r. r.items ≡ (inside_in instance.now decl.now here (counters out.old)).results) }
+    {
+        let results = self.walk_exprs(instance, here, decl.results.as_slice(), out)?;
+        self.eqns(instance, here, decl.eqs.as_slice(), out)?;
+        Ok(results)
+    }
+}

@@ -1,0 +1,87 @@
+//! How much a program expands to, and whether that keeps the limits.
+#![tactic(auto, using(crate::proofs::LimitLemmas::limiting))]
+
+ghost use Rattle.std.specs.Prelude.{◌≡◌, ◌≤◌, [], length, map, take, IfOk, IfErr, OnOk};
+ghost use Rattle.std.specs.List.{position};
+ghost use Rattle.zl_ast.specs.Names as names;
+ghost use Rattle.zl_expand.specs.Capped.{capped};
+ghost use Rattle.zl_expand.specs.ScopedDecls.{with_sizes};
+ghost use Rattle.zl_expand.specs.KeptDecls.{scoped_in, program_in, IsMeasured};
+ghost use Rattle.zl_expand.specs.Limits.{FitsIn, IsExpandRefusedBy};
+
+use crate::decls::{Declared, Known};
+use crate::eqn_size::decl_size;
+use crate::size::Size;
+use crate::texts::is_main;
+use std::alloc::{AllocError, Global};
+use zl_value::{Refusal, Rule};
+
+/// The number of `main`, the sizes of the declarations before it, and that of all that it expands to.
+#[derive(Drop)]
+pub(crate) struct Measured {
+    pub(crate) main: usize,
+    pub(crate) sizes: Vec<Size>,
+    pub(crate) size: Size,
+}
+
+/// The number of `main` among the declarations.
+fn find_main(declared: &Declared) -> Option<usize>
+    ensures { result ≡ position (λ d. names.is_main declared.now.names.now d.name.id) declared.now.decls.now }
+{
+    for (number, decl) in declared.decls.iter().enumerate() {
+        if is_main(declared.names, decl.name.id) {
+            return Some(number);
+        }
+    }
+    None
+}
+
+/// The sizes of the declarations before the one of this number.
+fn sizes_before(alloc: Global, declared: &Declared, number: usize) -> Result<Vec<Size>, AllocError>
+    requires { number ≤ length declared.now.decls.now }
+    ensures { IfOk result (λ sizes. sizes.items ≡ map (λ x. capped x.what) (with_sizes [] (take number (scoped_in declared.now)))) }
+{
+    let mut sizes = Vec::new(alloc);
+    for before in 0..number {
+        let known = Known {
+            declared: &*declared,
+            sizes: sizes.as_slice(),
+            number: before,
+        };
+        let size = decl_size(&known, &declared.decls[before]);
+        sizes.push(size)?;
+    }
+    Ok(sizes)
+}
+
+/// Measures what `main` expands to. A program that has no `main` can't be told from want of memory.
+pub(crate) fn measure(alloc: Global, declared: &Declared) -> Result<Measured, AllocError>
+    ensures { IfOk result (IsMeasured declared.now) }
+{
+    let Some(main) = find_main(declared) else {
+        return Err(AllocError);
+    };
+    let sizes = sizes_before(alloc, declared, main)?;
+    let known = Known {
+        declared,
+        sizes: sizes.as_slice(),
+        number: main,
+    };
+    let size = Size::block().plus(decl_size(&known, &declared.decls[main]));
+    Ok(Measured { main, sizes, size })
+}
+
+/// Refuses what passes a limit, at the name of `main`.
+pub(crate) fn refuse_too_large(declared: &Declared, measured: &Measured) -> Result<(), Refusal>
+    requires { IsMeasured declared.now measured.now }
+    ensures kept { OnOk result (FitsIn (program_in declared.now) declared.now.scopes.now declared.now.types.now) }
+    ensures refused { IfErr result (IsExpandRefusedBy (program_in declared.now) declared.now.scopes.now declared.now.types.now) }
+{
+    if measured.size.passes_a_limit() {
+        return Err(Refusal::Broken {
+            rule: Rule::ExpandSize,
+            at: declared.decls[measured.main].name.at,
+        });
+    }
+    Ok(())
+}

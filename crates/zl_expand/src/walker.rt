@@ -1,0 +1,131 @@
+//! The walk. Its parts take the walks of what stands inside as parameters, so that each is proved by itself.
+#![tactic(auto)]
+
+ghost use Rattle.std.specs.Prelude.{◌≡◌, OnOk, IfOk};
+ghost use Rattle.zl_expand.specs.Parts.{joined};
+ghost use Rattle.zl_expand.specs.Expressions.{expr_walk};
+ghost use Rattle.zl_expand.specs.Equations.{eqns_walk};
+ghost use Rattle.zl_expand.specs.Walks.{Walks};
+ghost use Rattle.zl_expand.specs.Kept.{counters, instance_in, names_in, inside_in};
+
+use crate::here::{Here, Root};
+use crate::instance::Instance;
+use crate::parts::Parts;
+use std::alloc::{AllocError, Global};
+use zl_ast::{Decl, Eqn, Expr};
+
+/// How many walks can stand inside each other. A program whose constructs and calls are within their limits needs fewer.
+const ROOM: u32 = 1048576;
+
+/// The walks of the expressions and of the equations that stand inside.
+#[derive(Clone, Copy)]
+pub(crate) struct Walker<X, Q> {
+    pub(crate) alloc: Global,
+    /// How many walks inside each other there is room for.
+    pub(crate) room: u32,
+    pub(crate) expr: X,
+    pub(crate) eqns: Q,
+}
+
+impl<
+    X: Fn(Global, &Instance<'_>, Here, u32, &Expr, &mut Parts) -> Result<Root, AllocError>,
+    Q: Fn(Global, &Instance<'_>, Here, u32, &[Eqn], &mut Parts) -> Result<(), AllocError>,
+> Walker<X, Q> {
+    /// Makes an expression that stands inside, and answers what it is.
+    pub(crate) fn expr(
+        &self,
+        instance: &Instance,
+        here: Here,
+        expr: &Expr,
+        out: &mut Parts,
+    ) -> Result<Root, AllocError>
+        requires { Walks self.now.room (X.pre self.now.expr) (X.post self.now.expr) (Q.pre self.now.eqns) (Q.post self.now.eqns) }
+        ensures made { OnOk result (out.new ≡ joined out.old (expr_walk instance.now.base (names_in instance.now) (instance_in instance.now) expr.now here (counters out.old)).parts) }
+        ensures root { IfOk result (λ r. r ≡ (expr_walk instance.now.base (names_in instance.now) (instance_in instance.now) expr.now here (counters out.old)).root) }
+    {
+        (self.expr)(self.alloc, instance, here, self.room, expr, out)
+    }
+
+    /// Makes equations that stand inside.
+    pub(crate) fn eqns(
+        &self,
+        instance: &Instance,
+        here: Here,
+        eqns: &[Eqn],
+        out: &mut Parts,
+    ) -> Result<(), AllocError>
+        requires { Walks self.now.room (X.pre self.now.expr) (X.post self.now.expr) (Q.pre self.now.eqns) (Q.post self.now.eqns) }
+        ensures { OnOk result (out.new ≡ joined out.old (eqns_walk instance.now.base (names_in instance.now) (instance_in instance.now) eqns.now here (counters out.old))) }
+    {
+        (self.eqns)(self.alloc, instance, here, self.room, eqns, out)
+    }
+}
+
+/// Makes an expression, and answers what it is.
+#[cycle(walk)]
+fn walk_expr(
+    alloc: Global,
+    instance: &Instance,
+    here: Here,
+    room: u32,
+    expr: &Expr,
+    out: &mut Parts,
+) -> Result<Root, AllocError>
+    ensures made { OnOk result (out.new ≡ joined out.old (expr_walk instance.now.base (names_in instance.now) (instance_in instance.now) expr.now here (counters out.old)).parts) }
+    ensures root { IfOk result (λ r. r ≡ (expr_walk instance.now.base (names_in instance.now) (instance_in instance.now) expr.now here (counters out.old)).root) }
+{
+    if room == 0 {
+        return Err(AllocError);
+    }
+    Walker {
+        alloc,
+        room: room - 1,
+        expr: walk_expr,
+        eqns: walk_eqns,
+    }
+    .walk_expr(instance, here, expr, out)
+}
+
+/// Makes equations.
+#[cycle(walk)]
+fn walk_eqns(
+    alloc: Global,
+    instance: &Instance,
+    here: Here,
+    room: u32,
+    eqns: &[Eqn],
+    out: &mut Parts,
+) -> Result<(), AllocError>
+    ensures { OnOk result (out.new ≡ joined out.old (eqns_walk instance.now.base (names_in instance.now) (instance_in instance.now) eqns.now here (counters out.old))) }
+{
+    if room == 0 {
+        return Err(AllocError);
+    }
+    Walker {
+        alloc,
+        room: room - 1,
+        expr: walk_expr,
+        eqns: walk_eqns,
+    }
+    .walk_eqns(instance, here, eqns, out)
+}
+
+/// The results and the equations of a copy whose parameters are made.
+pub(crate) fn walk_body(
+    alloc: Global,
+    instance: &Instance,
+    here: Here,
+    decl: &Decl,
+    out: &mut Parts,
+) -> Result<Vec<Root>, AllocError>
+    ensures made { OnOk result (out.new ≡ joined out.old (inside_in instance.now decl.now here (counters out.old)).parts) }
+    ensures results { IfOk result (λ r. r.items ≡ (inside_in instance.now decl.now here (counters out.old)).results) }
+{
+    Walker {
+        alloc,
+        room: ROOM,
+        expr: walk_expr,
+        eqns: walk_eqns,
+    }
+    .walk_body(instance, here, decl, out)
+}
