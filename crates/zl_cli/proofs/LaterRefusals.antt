@@ -15,10 +15,10 @@ use Rattle.zl_ast.specs.Scopes.{scopes}
 use Rattle.zl_ast.specs.Assignments.{IsTyping}
 use Rattle.zl_ast.specs.TypeEqualities.{equalities}
 use Rattle.zl_meaning.specs.FlatForm.{FlatForm}
-use Rattle.zl_expand.specs.Checked.{IsRead, IsChecked}
-use Rattle.zl_expand.specs.Flat.{IsFlatOf}
-use Rattle.zl_expand.specs.ScopedDecls.{program_main}
-use Rattle.zl_expand.specs.Limits.{IsExpandRefusal, IsExpandRefusedBy}
+use Rattle.zl_flat.specs.Checked.{IsRead, IsChecked}
+use Rattle.zl_flat.specs.Flat.{IsFlatOf}
+use Rattle.zl_flat.specs.ScopedDecls.{program_main}
+use Rattle.zl_flat.specs.Limits.{IsExpandRefusal, IsExpandRefusedBy}
 use Rattle.zl_cli.specs.TreeRules.{KeepsNames, KeepsTypes, KeepsInitialisation, KeepsLimits, IsFirstBroken, IsBrokenBy}
 
 types_broken_at : (p : Program) (r : Rule) (at : Pos) → KeepsNames p → IsTypesRefusedAt p r at → IsFirstBroken p r at

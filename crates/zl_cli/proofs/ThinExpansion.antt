@@ -33,13 +33,13 @@ use Rattle.zl_ast.specs.declared.program.Param.{Param}
 use Rattle.zl_ast.specs.declared.program.Program.{Program}
 use Rattle.zl_ast.specs.Names as name
 use Rattle.zl_meaning.specs.ThinForm.{ThinText}
-use Rattle.zl_expand.specs.ThinTree.{thin_program}
+use Rattle.zl_flat.specs.ThinTree.{thin_program}
 use Rattle.zl_ast.specs.Assignments.{IsTyping}
 use Rattle.zl_ast.specs.Scopes.{scopes}
 use Rattle.zl_ast.specs.TypeEqualities.{equalities}
 use Rattle.zl_meaning.specs.ThinForm.{thin_form}
-use Rattle.zl_expand.specs.Flat.{IsFlatOf}
-use Rattle.zl_expand.proofs.ThinTree.{thin-expands}
+use Rattle.zl_flat.specs.Flat.{IsFlatOf}
+use Rattle.zl_flat.proofs.ThinTree.{thin-expands}
 use Rattle.std.proofs.lemmas.Option.{get_or_from_slice_get}
 use Rattle.zl_cli.specs.declared.thin.Motion.{Motion}
 use Rattle.zl_cli.specs.ThinTree.{number_step, number_of, variable_step, variable_of, with_numbers, motion_step, motion_of, is_main, named_motion, thin_from, thin_declaration, thin_declarations, thin_tree}

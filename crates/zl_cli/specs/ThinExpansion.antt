@@ -12,7 +12,7 @@ use Rattle.zl_ast.specs.TypeEqualities.{equalities}
 use Rattle.zl_driver.specs.ThinRun.{thin_lines, thin_end}
 use Rattle.zl_meaning.specs.FlatForm.{FlatForm}
 use Rattle.zl_meaning.specs.ThinForm.{ThinText, thin_form, thin_grades, horizon_script, HasOneTrace}
-use Rattle.zl_expand.specs.Flat.{IsFlatOf}
+use Rattle.zl_flat.specs.Flat.{IsFlatOf}
 use Rattle.zl_cli.specs.ThinTree.{thin_tree}
 
 -- Its flat form, within the limits, is that of the variable that the tree says, which has this name in the file.

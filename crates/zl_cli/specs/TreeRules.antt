@@ -18,7 +18,7 @@ use Rattle.zl_ast.specs.TypesRules.{IsTypesRefusedAt}
 use Rattle.zl_ast.specs.Initialised.{requirements}
 use Rattle.zl_ast.specs.Levels.{HasLevels, IsUnmet}
 use Rattle.zl_meaning.specs.FlatForm.{FlatForm}
-use Rattle.zl_expand.specs.Limits.{FitsIn, IsTooLarge}
+use Rattle.zl_flat.specs.Limits.{FitsIn, IsTooLarge}
 
 -- the tree keeps the rules of names
 abbrev pub KeepsNames : Program → Type 0

@@ -1,6 +1,6 @@
 ghost use Rattle.std.specs.Prelude.{◌≡◌, ◌≤◌, length, IfOk, IfErr};
 ghost use Rattle.zl_lexer.specs.Facts.{AreTokens};
-ghost use Rattle.zl_expand.specs.Checked.{IsRead};
+ghost use Rattle.zl_flat.specs.Checked.{IsRead};
 ghost use Rattle.zl_cli.specs.Files.{IsText, StopsAtBytes, GivesProgram, LoadsProgram, LoadsHorizon};
 ghost use Rattle.zl_cli.specs.Loading.{GivesTokens, GivesTree, GivesKept, GivesThin};
 

@@ -3,7 +3,7 @@ ghost use Rattle.std.specs.Prelude.{◌≡◌, IfErr, OnOk};
 ghost use Rattle.zl_ast.specs.Assignments.{IsTyping};
 ghost use Rattle.zl_ast.specs.Scopes as scope_spec;
 ghost use Rattle.zl_ast.specs.TypeEqualities.{equalities};
-ghost use Rattle.zl_expand.specs.Checked.{IsRead};
+ghost use Rattle.zl_flat.specs.Checked.{IsRead};
 ghost use Rattle.zl_cli.specs.TreeRules.{KeepsNames, KeepsTypes, KeepsInitialisation, KeepsRules, IsBrokenBy, GivesTypes, GivesLevels, GivesFlat};
 
 use std::alloc::Global;

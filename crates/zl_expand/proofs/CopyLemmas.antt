@@ -6,12 +6,12 @@ use Rattle.std.proofs.lemmas.List.{take_all, length-append, take-take, take-map,
 use Rattle.zl_value.specs.declared.value.Ty.{Ty}
 use Rattle.zl_ast.specs.declared.scope.VarInfo.{VarInfo}
 use Rattle.zl_ast.specs.declared.program.Decl.{Decl}
-use Rattle.zl_expand.specs.declared.size.Size.{Size}
-use Rattle.zl_expand.specs.Capped.{capped}
-use Rattle.zl_expand.specs.Sizes.{decl_size}
-use Rattle.zl_expand.specs.ScopedDecls.{Scoped, scoped, Named, found, with_name, with_sizes}
-use Rattle.zl_expand.specs.Instances.{Callee}
-use Rattle.zl_expand.specs.Expansion.{decl_copy, with_callees}
+use Rattle.zl_flat.specs.declared.size.Size.{Size}
+use Rattle.zl_flat.specs.Capped.{capped}
+use Rattle.zl_flat.specs.Sizes.{decl_size}
+use Rattle.zl_flat.specs.ScopedDecls.{Scoped, scoped, Named, found, with_name, with_sizes}
+use Rattle.zl_flat.specs.Instances.{Callee}
+use Rattle.zl_flat.specs.Expansion.{decl_copy, with_callees}
 use Rattle.zl_expand.proofs.KnownLemmas.{first_place, place, position-place, both-ways, names-scoped}
 
 -- ---- the sizes of fewer declarations

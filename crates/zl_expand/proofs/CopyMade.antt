@@ -8,18 +8,18 @@ use Rattle.zl_value.specs.declared.value.Ty.{Ty}
 use Rattle.zl_ast.specs.declared.program.Decl.{Decl}
 use Rattle.zl_ast.specs.declared.program.Param.{Param}
 use Rattle.zl_ast.specs.declared.scope.VarInfo.{VarInfo}
-use Rattle.zl_expand.specs.declared.here.Here.{Here}
-use Rattle.zl_expand.specs.declared.here.Root.{Root}
-use Rattle.zl_expand.specs.declared.parts.Given.{Given}
+use Rattle.zl_flat.specs.declared.here.Here.{Here}
+use Rattle.zl_flat.specs.declared.here.Root.{Root}
+use Rattle.zl_flat.specs.declared.given.Given.{Given}
 use Rattle.zl_expand.specs.declared.instance.Instance.{Instance as TheInstance}
-use Rattle.zl_expand.specs.Parts.{Parts, Counters, joined, some_places, some_definers, after}
-use Rattle.zl_expand.specs.ScopedDecls.{Scoped, scoped, found, with_sizes}
-use Rattle.zl_expand.specs.Variables.{variables}
-use Rattle.zl_expand.specs.Numbering.{decl_numbering}
-use Rattle.zl_expand.specs.Instances.{Callee, Copy, Instance, callee}
-use Rattle.zl_expand.specs.Expressions.{exprs_walk}
-use Rattle.zl_expand.specs.Equations.{eqns_walk}
-use Rattle.zl_expand.specs.Expansion.{decl_copy, with_callees, body_copy, instance, argument_definers, param_place}
+use Rattle.zl_flat.specs.Parts.{Parts, Counters, joined, some_places, some_definers, after}
+use Rattle.zl_flat.specs.ScopedDecls.{Scoped, scoped, found, with_sizes}
+use Rattle.zl_flat.specs.Variables.{variables}
+use Rattle.zl_flat.specs.Numbering.{decl_numbering}
+use Rattle.zl_flat.specs.Instances.{Callee, Copy, Instance, callee}
+use Rattle.zl_flat.specs.Expressions.{exprs_walk}
+use Rattle.zl_flat.specs.Equations.{eqns_walk}
+use Rattle.zl_flat.specs.Expansion.{decl_copy, with_callees, body_copy, instance, argument_definers, param_place}
 use Rattle.zl_expand.specs.KeptDecls.{scoped_in, infos_in, types_in, known_in}
 use Rattle.zl_expand.specs.Kept.{counters, instance_in, names_in, inside_in}
 use Rattle.zl_expand.proofs.LimitLemmas.{HasScoped}

@@ -6,17 +6,17 @@ use Rattle.zl_ast.specs.declared.name.Name.{Name}
 use Rattle.zl_ast.specs.declared.expr.Expr.{Expr}
 use Rattle.zl_ast.specs.declared.expr.Expr.TheVariants as tree
 use Rattle.zl_meaning.specs.declared.place.DerArm.{DerArm}
-use Rattle.zl_expand.specs.declared.here.Here.{Here}
-use Rattle.zl_expand.specs.declared.here.Root.{Root}
-use Rattle.zl_expand.specs.Parts.{Parts, Counters, joined, some_definers, after}
-use Rattle.zl_expand.specs.Variables.{variable_of}
-use Rattle.zl_expand.specs.Operators.{built_in_op}
-use Rattle.zl_expand.specs.Instances.{Instance, in_body}
-use Rattle.zl_expand.specs.Expressions.{Walk, Walked, call, call_or_built_in, expr_walk}
-use Rattle.zl_expand.specs.Equations.{ResetWalk, given, derivative, start_definers, place_number, plain_definers, right_roots, name_made, names_made, start_made, resets_made, plain, der}
+use Rattle.zl_flat.specs.declared.here.Here.{Here}
+use Rattle.zl_flat.specs.declared.here.Root.{Root}
+use Rattle.zl_flat.specs.Parts.{Parts, Counters, joined, some_definers, after}
+use Rattle.zl_flat.specs.Variables.{variable_of}
+use Rattle.zl_flat.specs.Operators.{built_in_op}
+use Rattle.zl_flat.specs.Instances.{Instance, in_body}
+use Rattle.zl_flat.specs.Expressions.{Walk, Walked, call, call_or_built_in, expr_walk}
+use Rattle.zl_flat.specs.Equations.{ResetWalk, given, derivative, start_definers, place_number, plain_definers, right_roots, name_made, names_made, start_made, resets_made, plain, der}
 use Rattle.zl_expand.specs.Kept.{counters}
 use Rattle.zl_expand.proofs.PartsLaws.{joined-assoc, counters-joined}
-use Rattle.zl_expand.proofs.ExprSteps.{walk-call}
+use Rattle.zl_flat.proofs.ExprSteps.{walk-call}
 use Rattle.zl_expand.proofs.StateLemmas.{on-ok}
 
 -- the numbers behind what is made next

@@ -12,21 +12,21 @@ use Rattle.zl_meaning.specs.declared.block.Block.{Block}
 use Rattle.zl_meaning.specs.declared.block.BlockKind.TheVariants.{Main}
 use Rattle.zl_meaning.specs.declared.place.Definer.TheVariants.{Input}
 use Rattle.zl_meaning.specs.declared.place.PlaceInfo.{PlaceInfo}
-use Rattle.zl_expand.specs.declared.size.Size.{Size}
-use Rattle.zl_expand.specs.declared.parts.Given.{Given}
+use Rattle.zl_flat.specs.declared.size.Size.{Size}
+use Rattle.zl_flat.specs.declared.given.Given.{Given}
 use Rattle.zl_expand.specs.declared.decls.Declared.{Declared}
 use Rattle.zl_expand.specs.declared.decls.Known.{Known}
 use Rattle.zl_expand.specs.declared.limits.Measured.{Measured}
 use Rattle.zl_expand.specs.declared.instance.Instance.{Instance as TheInstance}
-use Rattle.zl_expand.specs.Capped.{cap, capped}
-use Rattle.zl_expand.specs.Limits.{Fits, FitsIn}
-use Rattle.zl_expand.specs.Flat.{IsFlatOf}
-use Rattle.zl_expand.specs.Parts.{Parts, Counters, nothing, joined, one_block, some_places, some_definers, after, past_block, start}
-use Rattle.zl_expand.specs.Variables.{variables}
-use Rattle.zl_expand.specs.Numbering.{decl_numbering}
-use Rattle.zl_expand.specs.Instances.{Instance, Callee}
-use Rattle.zl_expand.specs.Equations.{given}
-use Rattle.zl_expand.specs.Expansion.{Scoped, found, with_sizes, with_callees, MainOf, main_size, input_definers, param_place, body_copy, instance, variables_from, result_places, form_of, main_parts, main_form}
+use Rattle.zl_flat.specs.Capped.{cap, capped}
+use Rattle.zl_flat.specs.Limits.{Fits, FitsIn}
+use Rattle.zl_flat.specs.Flat.{IsFlatOf}
+use Rattle.zl_flat.specs.Parts.{Parts, Counters, nothing, joined, one_block, some_places, some_definers, after, past_block, start}
+use Rattle.zl_flat.specs.Variables.{variables}
+use Rattle.zl_flat.specs.Numbering.{decl_numbering}
+use Rattle.zl_flat.specs.Instances.{Instance, Callee}
+use Rattle.zl_flat.specs.Equations.{given}
+use Rattle.zl_flat.specs.Expansion.{Scoped, found, with_sizes, with_callees, MainOf, main_size, input_definers, param_place, body_copy, instance, variables_from, result_places, form_of, main_parts, main_form}
 use Rattle.zl_expand.specs.KeptDecls.{scoped_in, infos_in, types_in, known_in, program_in, IsMeasured}
 use Rattle.zl_expand.specs.Kept.{counters, instance_in, names_in, inside_in}
 use Rattle.zl_expand.specs.declared.tables.Tables.{Tables}

@@ -3,11 +3,11 @@ use Rattle.std.proofs.Common.{◌≡◌, ℕ, ◌+◌, List, length, sym, ap, �
 use Rattle.zl_value.specs.declared.position.Pos.{Pos}
 use Rattle.zl_meaning.specs.declared.occurrence.Occ.{Occ}
 use Rattle.zl_meaning.specs.declared.occurrence.Form.TheVariants.{Arrow, Pre}
-use Rattle.zl_expand.specs.declared.here.Here.{Here}
-use Rattle.zl_expand.specs.declared.here.Root.{Root}
-use Rattle.zl_expand.specs.Parts.{Parts, Counters, joined, one_occ, one_hidden, after, past_occ, past_hidden}
-use Rattle.zl_expand.specs.Instances.{Instance, occ_here}
-use Rattle.zl_expand.specs.Expressions.{Walk, Walked, followed}
+use Rattle.zl_flat.specs.declared.here.Here.{Here}
+use Rattle.zl_flat.specs.declared.here.Root.{Root}
+use Rattle.zl_flat.specs.Parts.{Parts, Counters, joined, one_occ, one_hidden, after, past_occ, past_hidden}
+use Rattle.zl_flat.specs.Instances.{Instance, occ_here}
+use Rattle.zl_flat.specs.Expressions.{Walk, Walked, followed}
 use Rattle.zl_expand.specs.Kept.{counters, unset_occ, with_occ, with_hidden}
 use Rattle.zl_expand.proofs.PartsLaws.{joined-assoc, counters-joined, counters-hidden, after-occ, after-hidden, set-occ, set-hidden-behind, hidden-behind}
 

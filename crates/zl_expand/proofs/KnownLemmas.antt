@@ -10,12 +10,12 @@ use Rattle.std.proofs.lemmas.List.{map-append, append_assoc, append-nil}
 use Rattle.zl_value.specs.declared.position.Pos.{Pos}
 use Rattle.zl_value.specs.declared.value.Ty.{Ty}
 use Rattle.zl_ast.specs.declared.scope.VarInfo.{VarInfo}
-use Rattle.zl_expand.specs.declared.size.Size.{Size}
-use Rattle.zl_expand.specs.FirstPlaces.{place_in_text}
+use Rattle.zl_flat.specs.declared.size.Size.{Size}
+use Rattle.zl_flat.specs.FirstPlaces.{place_in_text}
 use Rattle.zl_ast.specs.declared.program.Decl.{Decl}
-use Rattle.zl_expand.specs.Capped.{cap, capped}
-use Rattle.zl_expand.specs.Sizes.{none, in_call, called_size, decl_size}
-use Rattle.zl_expand.specs.ScopedDecls.{Scoped, scoped, Named, found, with_name, with_sizes}
+use Rattle.zl_flat.specs.Capped.{cap, capped}
+use Rattle.zl_flat.specs.Sizes.{none, in_call, called_size, decl_size}
+use Rattle.zl_flat.specs.ScopedDecls.{Scoped, scoped, Named, found, with_name, with_sizes}
 
 -- ---- the place of a name
 

@@ -9,12 +9,12 @@ use Rattle.zl_value.specs.declared.value.Ty.{Ty}
 use Rattle.zl_ast.specs.declared.scope.VarInfo.{VarInfo}
 use Rattle.zl_ast.specs.declared.program.Decl.{Decl}
 use Rattle.zl_ast.specs.Names.{is_main}
-use Rattle.zl_expand.specs.declared.size.Size.{Size}
-use Rattle.zl_expand.specs.Capped.{capped}
-use Rattle.zl_expand.specs.Sizes.{plus, a_block, decl_size}
-use Rattle.zl_expand.specs.Limits.{Fits, Passes}
-use Rattle.zl_expand.specs.Limits.Passes.{OfPlaces, OfOccs, OfSites, OfBlocks, OfCalls}
-use Rattle.zl_expand.specs.ScopedDecls.{Scoped, scoped, Named, found, with_name, with_sizes, MainOf, behind, main_of, main_size}
+use Rattle.zl_flat.specs.declared.size.Size.{Size}
+use Rattle.zl_flat.specs.Capped.{capped}
+use Rattle.zl_flat.specs.Sizes.{plus, a_block, decl_size}
+use Rattle.zl_flat.specs.Limits.{Fits, Passes}
+use Rattle.zl_flat.specs.Limits.Passes.{OfPlaces, OfOccs, OfSites, OfBlocks, OfCalls}
+use Rattle.zl_flat.specs.ScopedDecls.{Scoped, scoped, Named, found, with_name, with_sizes, MainOf, behind, main_of, main_size}
 use Rattle.zl_expand.proofs.KnownLemmas.{first_place, position-first}
 use Rattle.zl_expand.proofs.SizeSums.{capped-left, capped-right}
 

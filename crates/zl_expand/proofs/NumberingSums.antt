@@ -3,11 +3,11 @@ use Rattle.std.proofs.Common.{◌≡◌, ℕ, zero, suc, ◌+◌, ◌^◌, ◌<�
 use Rattle.std.proofs.lemmas.Grind.{common_steps}
 use Rattle.std.proofs.lemmas.List.{append_assoc, drop_more}
 use Rattle.zl_expand.specs.declared.numbering.Places.{Places}
-use Rattle.zl_expand.specs.declared.size.Size.{Size}
-use Rattle.zl_expand.specs.Capped.{cap, capped}
-use Rattle.zl_expand.specs.Numbering.{Numbering, in_turn, both, a_variable, of_calls}
+use Rattle.zl_flat.specs.declared.size.Size.{Size}
+use Rattle.zl_flat.specs.Capped.{cap, capped}
+use Rattle.zl_flat.specs.Numbering.{Numbering, in_turn, both, a_variable, of_calls}
 use Rattle.zl_expand.specs.Kept.{Numbers}
-use Rattle.zl_expand.proofs.NumberingSteps.{numbering_steps}
+use Rattle.zl_flat.proofs.NumberingSteps.{numbering_steps}
 
 -- a variable for each of a list, from the i-th on
 abbrev pub each_from : {A : Type 0} → List A → ℕ → Numbering

@@ -2,10 +2,10 @@
 use Rattle.std.proofs.Common.{◌≡◌, ℕ, zero, suc, ◌+◌, max, ◌<◌, List, [], ◌∷◌, map, drop, length, get_or, refl, sym, ap, ◌∙◌, arith}
 use Rattle.std.proofs.lemmas.Grind.{common_steps}
 use Rattle.std.proofs.lemmas.List.{drop_more}
-use Rattle.zl_expand.specs.declared.size.Size.{Size}
-use Rattle.zl_expand.specs.Sizes.{none, plus, total}
-use Rattle.zl_expand.specs.Capped.{cap, capped}
-use Rattle.zl_expand.proofs.SizeSteps.{size_steps}
+use Rattle.zl_flat.specs.declared.size.Size.{Size}
+use Rattle.zl_flat.specs.Sizes.{none, plus, total}
+use Rattle.zl_flat.specs.Capped.{cap, capped}
+use Rattle.zl_flat.proofs.SizeSteps.{size_steps}
 
 size-eq : {a b : Size} → a.places ≡ b.places → a.occs ≡ b.occs → a.sites ≡ b.sites → a.blocks ≡ b.blocks → a.calls ≡ b.calls → a ≡ b
 size-eq p o s k c = λ i. record { places = p i; occs = o i; sites = s i; blocks = k i; calls = c i }

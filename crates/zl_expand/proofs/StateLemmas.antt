@@ -7,10 +7,10 @@ use Rattle.std.specs.declared.result.Result.TheVariants as result
 use Rattle.zl_meaning.specs.declared.block.Block.{Block}
 use Rattle.zl_meaning.specs.declared.block.BlockKind.TheVariants.{Guard, State as StateOf}
 use Rattle.zl_meaning.specs.declared.occurrence.Occ.{Occ}
-use Rattle.zl_expand.specs.declared.here.Here.{Here}
-use Rattle.zl_expand.specs.Parts.{Parts, Counters, joined, one_block, one_hidden, after, past_block}
-use Rattle.zl_expand.specs.Instances.{Instance, in_block, inner_block}
-use Rattle.zl_expand.specs.Equations.{Making, MoveWalk, moves_made, state_made}
+use Rattle.zl_flat.specs.declared.here.Here.{Here}
+use Rattle.zl_flat.specs.Parts.{Parts, Counters, joined, one_block, one_hidden, after, past_block}
+use Rattle.zl_flat.specs.Instances.{Instance, in_block, inner_block}
+use Rattle.zl_flat.specs.Equations.{Making, MoveWalk, moves_made, state_made}
 use Rattle.zl_expand.specs.Kept.{counters, with_occ}
 use Rattle.zl_expand.proofs.PartsLaws.{joined-assoc, counters-joined, after-block, counters-blocks}
 

@@ -6,8 +6,8 @@ use Rattle.std.proofs.lemmas.List.{append_assoc, append-nil, map-append}
 use Rattle.zl_value.specs.Lists.{listed}
 use Rattle.zl_meaning.specs.declared.place.Definer.{Definer}
 use Rattle.zl_meaning.specs.declared.place.PlaceInfo.{PlaceInfo}
-use Rattle.zl_expand.specs.declared.parts.Given.{Given}
-use Rattle.zl_expand.specs.Expansion.{definers_of, with_definers, defined_places}
+use Rattle.zl_flat.specs.declared.given.Given.{Given}
+use Rattle.zl_flat.specs.Expansion.{definers_of, with_definers, defined_places}
 use Rattle.zl_expand.specs.Tables.{given_more, by_place, with_lists}
 
 -- ---- numbered lists

@@ -5,8 +5,8 @@ use Rattle.std.specs.Option.{option_map}
 use Rattle.std.proofs.lemmas.Bool.{eqb-true}
 use Rattle.zl_value.specs.declared.value.Ty.{Ty}
 use Rattle.zl_ast.specs.declared.scope.VarInfo.{VarInfo}
-use Rattle.zl_expand.specs.declared.instance.Variable.{Variable}
-use Rattle.zl_expand.specs.Variables.{variables, variable_of}
+use Rattle.zl_flat.specs.declared.variable.Variable.{Variable}
+use Rattle.zl_flat.specs.Variables.{variables, variable_of}
 use Rattle.zl_expand.proofs.KnownLemmas.{first_place, place, position-place, both-ways, names_of}
 
 -- ---- the variable of a copy

@@ -11,19 +11,19 @@ use Rattle.zl_meaning.specs.declared.place.Definer.{Definer}
 use Rattle.zl_meaning.specs.declared.occurrence.Form.TheVariants.{Fired}
 use Rattle.zl_meaning.specs.declared.occurrence.Occ.{Occ}
 use Rattle.zl_meaning.specs.declared.occurrence.SiteInfo.{SiteInfo}
-use Rattle.zl_expand.specs.declared.parts.Given.{Given}
+use Rattle.zl_flat.specs.declared.given.Given.{Given}
 use Rattle.zl_expand.specs.declared.numbering.Places.{Places}
 use Rattle.zl_expand.specs.declared.instance.Instance.{Instance as TheInstance}
 use Rattle.zl_ast.specs.declared.program.Decl.{Decl}
-use Rattle.zl_expand.specs.declared.here.Here.{Here}
-use Rattle.zl_expand.specs.Parts.{Parts, Counters, joined, after}
-use Rattle.zl_expand.specs.Equations.{eqns_walk}
-use Rattle.zl_expand.specs.Numbering.{Numbering}
-use Rattle.zl_expand.specs.Variables.{variables}
-use Rattle.zl_expand.specs.Instances.{Instance, Copy}
+use Rattle.zl_flat.specs.declared.here.Here.{Here}
+use Rattle.zl_flat.specs.Parts.{Parts, Counters, joined, after}
+use Rattle.zl_flat.specs.Equations.{eqns_walk}
+use Rattle.zl_flat.specs.Numbering.{Numbering}
+use Rattle.zl_flat.specs.Variables.{variables}
+use Rattle.zl_flat.specs.Instances.{Instance, Copy}
 use Rattle.zl_ast.specs.declared.expr.Expr.{Expr}
-use Rattle.zl_expand.specs.Expressions.{Walk, expr_walk, exprs_walk}
-use Rattle.zl_expand.specs.Expansion.{found, with_callees}
+use Rattle.zl_flat.specs.Expressions.{Walk, expr_walk, exprs_walk}
+use Rattle.zl_flat.specs.Expansion.{found, with_callees}
 pub use Rattle.zl_expand.specs.KeptDecls.{scoped_in, infos_in, types_in, known_in}
 
 -- ---- numbering

@@ -4,12 +4,12 @@ use Rattle.std.specs.Option.{option_map_or}
 use Rattle.zl_value.specs.declared.value.Ty.{Ty}
 use Rattle.zl_ast.specs.declared.scope.VarInfo.{VarInfo}
 use Rattle.zl_ast.specs.declared.program.Program.{Program}
-use Rattle.zl_expand.specs.declared.size.Size.{Size}
+use Rattle.zl_flat.specs.declared.size.Size.{Size}
 use Rattle.zl_expand.specs.declared.decls.Declared.{Declared}
 use Rattle.zl_expand.specs.declared.decls.Known.{Known}
 use Rattle.zl_expand.specs.declared.limits.Measured.{Measured}
-use Rattle.zl_expand.specs.Capped.{capped}
-use Rattle.zl_expand.specs.ScopedDecls.{Scoped, scoped, found, with_sizes, MainOf, main_of, main_size}
+use Rattle.zl_flat.specs.Capped.{capped}
+use Rattle.zl_flat.specs.ScopedDecls.{Scoped, scoped, found, with_sizes, MainOf, main_of, main_size}
 
 abbrev pub scoped_in : Declared → List Scoped
 scoped_in d = scoped d.decls.now d.scopes.now d.types.now

@@ -6,10 +6,10 @@ use Rattle.zl_meaning.specs.FlatForm.{FlatForm}
 use Rattle.zl_meaning.specs.declared.place.Definer.{Definer}
 use Rattle.zl_meaning.specs.declared.place.PlaceInfo.{PlaceInfo}
 use Rattle.zl_expand.specs.declared.decls.Known.{Known}
-use Rattle.zl_expand.specs.declared.parts.Given.{Given}
+use Rattle.zl_flat.specs.declared.given.Given.{Given}
 use Rattle.zl_expand.specs.declared.tables.Tables.{Tables}
 use Rattle.zl_expand.specs.KeptDecls.{scoped_in, infos_in, types_in, known_in}
-use Rattle.zl_expand.specs.Expansion.{Scoped, found, with_callees, variables_from, definers_of, with_definers, result_places, form_of, main_parts}
+use Rattle.zl_flat.specs.Expansion.{Scoped, found, with_callees, variables_from, definers_of, with_definers, result_places, form_of, main_parts}
 
 -- the flat form that the tables are
 abbrev pub form_in : Tables → FlatForm

@@ -6,12 +6,12 @@ use denote.Bor.{Bor}
 use denote.Ref.{MutBor}
 use Rattle.zl_ast.specs.declared.expr.Expr.{Expr}
 use Rattle.zl_ast.specs.declared.eqn.Eqn.{Eqn}
-use Rattle.zl_expand.specs.declared.here.Here.{Here}
-use Rattle.zl_expand.specs.declared.here.Root.{Root}
+use Rattle.zl_flat.specs.declared.here.Here.{Here}
+use Rattle.zl_flat.specs.declared.here.Root.{Root}
 use Rattle.zl_expand.specs.declared.instance.Instance.{Instance as TheInstance}
-use Rattle.zl_expand.specs.Parts.{Parts, joined}
-use Rattle.zl_expand.specs.Expressions.{expr_walk}
-use Rattle.zl_expand.specs.Equations.{eqns_walk}
+use Rattle.zl_flat.specs.Parts.{Parts, joined}
+use Rattle.zl_flat.specs.Expressions.{expr_walk}
+use Rattle.zl_flat.specs.Equations.{eqns_walk}
 use Rattle.zl_expand.specs.Kept.{counters, instance_in, names_in}
 
 pub record Walks (room : ℕ)

@@ -2,20 +2,20 @@
 #![tactic(auto, using(crate::proofs::WalkLaws::walking))]
 
 ghost use Rattle.std.specs.Prelude.{◌≡◌, map, OnOk, IfOk};
-ghost use Rattle.zl_expand.specs.Parts.{joined, some_places, some_definers};
-ghost use Rattle.zl_expand.specs.Instances.{callee};
-ghost use Rattle.zl_expand.specs.Expansion.{param_place, argument_definers};
+ghost use Rattle.zl_flat.specs.Parts.{joined, some_places, some_definers};
+ghost use Rattle.zl_flat.specs.Instances.{callee};
+ghost use Rattle.zl_flat.specs.Expansion.{param_place, argument_definers};
 ghost use Rattle.zl_expand.specs.Walks.{Walks};
 ghost use Rattle.zl_expand.specs.Kept.{counters, instance_in, inside_in};
 
 use crate::decls::Known;
-use crate::here::{Here, Root};
 use crate::instance::Instance;
 use crate::numbering::own_places;
 use crate::parts::{Parts, next};
 use crate::walker::Walker;
 use std::alloc::{AllocError, Global};
 use zl_ast::{Decl, Eqn, Expr, Param};
+use zl_flat::{Here, Root};
 use zl_meaning::Definer;
 
 /// The places of the parameters.

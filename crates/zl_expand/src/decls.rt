@@ -1,11 +1,11 @@
 //! The declarations of a program, with their variables, by number and by name.
 ghost use Rattle.std.specs.Prelude.{◌≡◌, [], length, map, take};
-ghost use Rattle.zl_expand.specs.Capped.{capped};
-ghost use Rattle.zl_expand.specs.ScopedDecls.{scoped, with_sizes};
+ghost use Rattle.zl_flat.specs.Capped.{capped};
+ghost use Rattle.zl_flat.specs.ScopedDecls.{scoped, with_sizes};
 
 use crate::name_index::NameIndex;
-use crate::size::Size;
 use zl_ast::{Decl, VarInfo};
+use zl_flat::Size;
 use zl_lexer::Names;
 use zl_value::{Sequence, Ty};
 

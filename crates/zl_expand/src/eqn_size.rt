@@ -2,14 +2,14 @@
 #![tactic(auto, using(crate::proofs::SizeSums::sizes))]
 
 ghost use Rattle.std.specs.Prelude.{◌≡◌, map};
-ghost use Rattle.zl_expand.specs.Sizes as spec;
-ghost use Rattle.zl_expand.specs.Capped.{capped};
+ghost use Rattle.zl_flat.specs.Sizes as spec;
+ghost use Rattle.zl_flat.specs.Capped.{capped};
 ghost use Rattle.zl_expand.specs.KeptDecls.{infos_in, known_in};
 
 use crate::decls::Known;
 use crate::expr_size::{expr_size, exprs_size};
-use crate::size::Size;
 use zl_ast::{Arm, Body, Cond, Decl, Eqn, Expr, Move, Name, Param, ResetArm, State, Up};
+use zl_flat::Size;
 
 fn up_size(known: &Known, up: &Up) -> Size
     ensures { result ≡ capped (spec.up_size (infos_in known.now) (known_in known.now) up.now) }
@@ -180,7 +180,7 @@ fn params_size(params: &[Param]) -> Size
 }
 
 /// How much a copy of the declaration's body expands to.
-#[tactic(auto, using(crate::proofs::SizeSums::sizes), unfolding(crate::specs::Sizes::decl_size))]
+#[tactic(auto, using(crate::proofs::SizeSums::sizes), unfolding(zl_flat::specs::Sizes::decl_size))]
 pub(crate) fn decl_size(known: &Known, decl: &Decl) -> Size
     ensures { result ≡ capped (spec.decl_size (infos_in known.now) (known_in known.now) decl.now) }
 {

@@ -3,21 +3,21 @@
 
 ghost use Rattle.std.specs.Prelude.{◌≡◌, ◌+◌, ◌∷◌, map, length, OnOk, IfOk};
 ghost use Rattle.std.specs.Option.{option_map};
-ghost use Rattle.zl_expand.specs.Parts.{joined, some_definers};
-ghost use Rattle.zl_expand.specs.Variables.{variable_of};
-ghost use Rattle.zl_expand.specs.Expressions.{expr_walk};
-ghost use Rattle.zl_expand.specs.Equations as spec;
-ghost use Rattle.zl_expand.specs.Equations.{eqn_walk, arm_walk, body_walk};
+ghost use Rattle.zl_flat.specs.Parts.{joined, some_definers};
+ghost use Rattle.zl_flat.specs.Variables.{variable_of};
+ghost use Rattle.zl_flat.specs.Expressions.{expr_walk};
+ghost use Rattle.zl_flat.specs.Equations as spec;
+ghost use Rattle.zl_flat.specs.Equations.{eqn_walk, arm_walk, body_walk};
 ghost use Rattle.zl_expand.specs.Walks.{Walks};
 ghost use Rattle.zl_expand.specs.Kept.{counters, instance_in, names_in};
 
-use crate::here::{Here, Root};
 use crate::instance::Instance;
 use crate::operators::built_in_op;
 use crate::parts::{Parts, next};
 use crate::walker::Walker;
 use std::alloc::{AllocError, Global};
 use zl_ast::{Arm, Body, Cond, Eqn, Expr, Name, ResetArm};
+use zl_flat::{Here, Root};
 use zl_meaning::{BlockKind, Choice, Definer, DerArm};
 use zl_value::Sequence;
 

@@ -4,17 +4,16 @@
 ghost use Rattle.std.specs.Prelude.{◌≡◌, ◌++◌, length, OnOk, IfOk, IfErr};
 ghost use Rattle.zl_value.specs.Lists.{listed};
 ghost use Rattle.zl_ast.specs.NamesRules as rules_of_names;
-ghost use Rattle.zl_expand.specs.Parts.{joined, some_definers};
-ghost use Rattle.zl_expand.specs.Expansion.{input_definers, result_place, result_places};
+ghost use Rattle.zl_flat.specs.Parts.{joined, some_definers};
+ghost use Rattle.zl_flat.specs.Expansion.{input_definers, result_place, result_places};
 ghost use Rattle.zl_expand.specs.Kept.{instance_in};
 ghost use Rattle.zl_expand.specs.KeptDecls.{program_in, IsMeasured};
-ghost use Rattle.zl_expand.specs.Limits.{FitsIn, IsExpandRefusedBy};
-ghost use Rattle.zl_expand.specs.Flat.{IsFlatOf};
+ghost use Rattle.zl_flat.specs.Limits.{FitsIn, IsExpandRefusedBy};
+ghost use Rattle.zl_flat.specs.Flat.{IsFlatOf};
 ghost use Rattle.zl_expand.specs.Tables.{form_in, main_in};
 
 use crate::copy::add_params;
 use crate::decls::{Declared, Known};
-use crate::here::Here;
 use crate::instance::Instance;
 use crate::limits::{Measured, measure, refuse_too_large};
 use crate::numbering::own_places;
@@ -23,6 +22,7 @@ use crate::tables::{Tables, make_tables};
 use crate::walker::walk_body;
 use std::alloc::{AllocError, Global};
 use zl_ast::{Decl, DeclKind, Expr, Param, Program, Scopes, Typing};
+use zl_flat::Here;
 use zl_meaning::{Block, BlockKind, Definer};
 use zl_value::Refusal;
 
@@ -51,7 +51,7 @@ fn is_hybrid(kind: DeclKind) -> bool
 }
 
 /// The place of a result, if that is a variable.
-#[tactic(auto, using(crate::proofs::ExpandLemmas::expanding), unfolding(crate::specs::Expansion::result_place))]
+#[tactic(auto, using(crate::proofs::ExpandLemmas::expanding), unfolding(zl_flat::specs::Expansion::result_place))]
 fn add_result(instance: &Instance, expr: &Expr, places: &mut Vec<u32>) -> Result<(), AllocError>
     ensures { OnOk result (places.new.items ≡ places.old.items ++ result_place (instance_in instance.now).variables expr.now) }
 {

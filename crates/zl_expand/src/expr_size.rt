@@ -2,13 +2,13 @@
 #![tactic(auto, using(crate::proofs::SizeSums::sizes))]
 
 ghost use Rattle.std.specs.Prelude.{◌≡◌, map};
-ghost use Rattle.zl_expand.specs.Sizes as spec;
-ghost use Rattle.zl_expand.specs.Capped.{capped};
+ghost use Rattle.zl_flat.specs.Sizes as spec;
+ghost use Rattle.zl_flat.specs.Capped.{capped};
 ghost use Rattle.zl_expand.specs.KeptDecls.{infos_in, known_in};
 
 use crate::decls::Known;
-use crate::size::Size;
 use zl_ast::{Expr, Link, Name};
+use zl_flat::Size;
 
 /// A name that is read: a variable, or a constant, which is called.
 fn read_size(known: &Known, name: Name) -> Size

@@ -1,13 +1,13 @@
 //! The flat form of a program that keeps the rules.
-#![tactic(auto, using(crate::proofs::CheckedPrograms::flat_is_well_formed, crate::proofs::CheckedPrograms::flat_is_single, crate::proofs::CheckedPrograms::flat_is_regular))]
+#![tactic(auto, using(zl_flat::proofs::CheckedPrograms::flat_is_well_formed, zl_flat::proofs::CheckedPrograms::flat_is_single, zl_flat::proofs::CheckedPrograms::flat_is_regular))]
 
 ghost use Rattle.std.specs.Prelude.{◌≡◌, IfOk, IfErr};
 ghost use Rattle.zl_ast.specs.Scopes as rules;
 ghost use Rattle.zl_meaning.specs.Regular.{IsRegular};
 ghost use Rattle.zl_meaning.specs.Single.{IsSingle};
-ghost use Rattle.zl_expand.specs.Checked.{IsChecked};
-ghost use Rattle.zl_expand.specs.Flat.{IsFlatOf};
-ghost use Rattle.zl_expand.specs.Limits.{IsExpandRefusedBy};
+ghost use Rattle.zl_flat.specs.Checked.{IsChecked};
+ghost use Rattle.zl_flat.specs.Flat.{IsFlatOf};
+ghost use Rattle.zl_flat.specs.Limits.{IsExpandRefusedBy};
 
 use crate::expansion::expand_tables;
 use std::alloc::Global;

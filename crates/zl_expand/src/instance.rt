@@ -1,21 +1,11 @@
 //! One copy of a declaration's body.
 ghost use Rattle.std.specs.Prelude.{◌≡◌};
-ghost use Rattle.zl_expand.specs.Variables.{variable_of};
-ghost use Rattle.zl_expand.specs.Instances as spec;
+ghost use Rattle.zl_flat.specs.Variables.{variable_of};
+ghost use Rattle.zl_flat.specs.Instances as spec;
 ghost use Rattle.zl_expand.specs.Kept.{instance_in};
 
 use crate::decls::Known;
-use crate::here::Here;
-use zl_value::Ty;
-
-/// A variable of a declaration in one copy of its body.
-#[derive(Clone, Copy, Debug, PartialEq, Eq)]
-pub struct Variable {
-    /// The number of its name.
-    pub name: u32,
-    pub ty: Ty,
-    pub place: u32,
-}
+use zl_flat::{Here, Variable};
 
 /// A copy of a declaration's body, in which the variables have these places.
 #[derive(Clone, Copy)]

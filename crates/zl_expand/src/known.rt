@@ -3,16 +3,16 @@
 
 ghost use Rattle.std.specs.Prelude.{◌≡◌, map, nat_eq, is_some, IfOk};
 ghost use Rattle.std.specs.List.{position};
-ghost use Rattle.zl_expand.specs.Sizes as spec;
-ghost use Rattle.zl_expand.specs.FirstPlaces.{place_in_text, is_first};
-ghost use Rattle.zl_expand.specs.Capped.{capped};
+ghost use Rattle.zl_flat.specs.Sizes as spec;
+ghost use Rattle.zl_flat.specs.FirstPlaces.{place_in_text, is_first};
+ghost use Rattle.zl_flat.specs.Capped.{capped};
 ghost use Rattle.zl_expand.specs.KeptDecls.{infos_in, known_in};
 
 use crate::decls::{Declared, Known};
 use crate::name_index::NameIndex;
-use crate::size::Size;
 use std::alloc::{AllocError, Global};
 use zl_ast::{Decl, Name, VarInfo};
+use zl_flat::Size;
 use zl_lexer::Names;
 use zl_value::{Pos, Sequence, Ty};
 

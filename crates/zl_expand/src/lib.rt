@@ -8,16 +8,13 @@ mod eqns;
 mod expansion;
 mod expr_size;
 mod flat;
-mod here;
 mod instance;
 mod known;
-pub mod laws;
 mod limits;
 mod name_index;
 mod numbering;
 mod operators;
 mod parts;
-mod size;
 mod states;
 mod tables;
 #[cfg(test)]
@@ -28,7 +25,3 @@ mod walk;
 mod walker;
 
 pub use flat::expand;
-pub use here::{Here, Root};
-pub use instance::Variable;
-pub use parts::Given;
-pub use size::Size;

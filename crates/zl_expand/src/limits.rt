@@ -1,19 +1,19 @@
 //! How much a program expands to, and whether that keeps the limits.
 #![tactic(auto, using(crate::proofs::LimitLemmas::limiting))]
 
-ghost use Rattle.std.specs.Prelude.{◌≡◌, ◌≤◌, [], length, map, take, IfOk, IfErr, OnOk};
+ghost use Rattle.std.specs.Prelude.{◌≡◌, ◌≤◌, true, false, [], length, map, take, IfOk, IfErr, OnOk};
 ghost use Rattle.std.specs.List.{position};
 ghost use Rattle.zl_ast.specs.Names as names;
-ghost use Rattle.zl_expand.specs.Capped.{capped};
-ghost use Rattle.zl_expand.specs.ScopedDecls.{with_sizes};
+ghost use Rattle.zl_flat.specs.Capped.{capped};
+ghost use Rattle.zl_flat.specs.ScopedDecls.{with_sizes};
 ghost use Rattle.zl_expand.specs.KeptDecls.{scoped_in, program_in, IsMeasured};
-ghost use Rattle.zl_expand.specs.Limits.{FitsIn, IsExpandRefusedBy};
+ghost use Rattle.zl_flat.specs.Limits.{Fits, Passes, FitsIn, IsExpandRefusedBy};
 
 use crate::decls::{Declared, Known};
 use crate::eqn_size::decl_size;
-use crate::size::Size;
 use crate::texts::is_main;
 use std::alloc::{AllocError, Global};
+use zl_flat::Size;
 use zl_value::{Refusal, Rule};
 
 /// The number of `main`, the sizes of the declarations before it, and that of all that it expands to.
@@ -71,13 +71,26 @@ pub(crate) fn measure(alloc: Global, declared: &Declared) -> Result<Measured, Al
     Ok(Measured { main, sizes, size })
 }
 
+/// Whether a count passes its limit. The limits are this project's own.
+#[tactic(auto)]
+fn passes_a_limit(size: Size) -> bool
+    ensures passes { result ≡ true → Passes size }
+    ensures fits { result ≡ false → Fits size }
+{
+    size.places > 8192
+        || size.occs > 262144
+        || size.sites > 1024
+        || size.blocks > 65536
+        || size.calls > 64
+}
+
 /// Refuses what passes a limit, at the name of `main`.
 pub(crate) fn refuse_too_large(declared: &Declared, measured: &Measured) -> Result<(), Refusal>
     requires { IsMeasured declared.now measured.now }
     ensures kept { OnOk result (FitsIn (program_in declared.now) declared.now.scopes.now declared.now.types.now) }
     ensures refused { IfErr result (IsExpandRefusedBy (program_in declared.now) declared.now.scopes.now declared.now.types.now) }
 {
-    if measured.size.passes_a_limit() {
+    if passes_a_limit(measured.size) {
         return Err(Refusal::Broken {
             rule: Rule::ExpandSize,
             at: declared.decls[measured.main].name.at,

@@ -2,16 +2,16 @@
 #![tactic(auto, using(crate::proofs::NumberingSums::numbering))]
 
 ghost use Rattle.std.specs.Prelude.{◌≡◌, ◌+◌, ◌^◌, ◌<◌, ◌++◌, [], map, OnOk, IfOk};
-ghost use Rattle.zl_expand.specs.Numbering as spec;
-ghost use Rattle.zl_expand.specs.Sizes as sizes;
+ghost use Rattle.zl_flat.specs.Numbering as spec;
+ghost use Rattle.zl_flat.specs.Sizes as sizes;
 ghost use Rattle.zl_expand.specs.Kept.{infos_in, known_in, Numbers};
 
 use crate::decls::Known;
 use crate::eqn_size::{cond_size, moves_size, resets_size, start_size};
 use crate::expr_size::{expr_size, exprs_size};
-use crate::size::Size;
 use std::alloc::{AllocError, Global};
 use zl_ast::{Arm, Body, Cond, Decl, Eqn, Expr, Move, Name, Param, ResetArm, State};
+use zl_flat::Size;
 
 /// The places of variables so far, and the next place.
 #[derive(Drop)]
@@ -208,7 +208,7 @@ fn number_params(params: &[Param], places: &mut Places) -> Result<(), AllocError
 }
 
 /// The places of a declaration's variables in a copy whose first place this is.
-#[tactic(auto, using(crate::proofs::NumberingSums::numbering), unfolding(crate::specs::Numbering::decl_numbering))]
+#[tactic(auto, using(crate::proofs::NumberingSums::numbering), unfolding(zl_flat::specs::Numbering::decl_numbering))]
 pub(crate) fn own_places(
     alloc: Global,
     known: &Known,

@@ -1,7 +1,7 @@
 //! The operators of expressions, by the types of their operands.
 ghost use Rattle.std.specs.Prelude.{◌≡◌};
 ghost use Rattle.zl_value.specs.OperatorTypes.{type_of};
-ghost use Rattle.zl_expand.specs.Operators as spec;
+ghost use Rattle.zl_flat.specs.Operators as spec;
 
 use crate::texts::has_text;
 use zl_ast::{Infix, Prefix};

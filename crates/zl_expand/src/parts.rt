@@ -1,21 +1,15 @@
 //! What a walk makes.
-#![tactic(auto, using(crate::proofs::PartsLaws::appending), unfolding(crate::specs::Parts::joined, crate::specs::Parts::nothing, crate::specs::Parts::some_places, crate::specs::Parts::some_definers, crate::specs::Parts::one_block, crate::specs::Parts::one_place, crate::specs::Parts::one_occ, crate::specs::Parts::one_hidden, crate::specs::Parts::one_site, crate::specs::Parts::one_choice, crate::specs::Parts::one_automaton, crate::specs::Kept::with_block, crate::specs::Kept::with_occ, crate::specs::Kept::with_hidden, crate::specs::Kept::with_site, crate::specs::Kept::with_choice, crate::specs::Kept::with_automaton))]
+#![tactic(auto, using(crate::proofs::PartsLaws::appending), unfolding(zl_flat::specs::Parts::joined, zl_flat::specs::Parts::nothing, zl_flat::specs::Parts::some_places, zl_flat::specs::Parts::some_definers, zl_flat::specs::Parts::one_block, zl_flat::specs::Parts::one_place, zl_flat::specs::Parts::one_occ, zl_flat::specs::Parts::one_hidden, zl_flat::specs::Parts::one_site, zl_flat::specs::Parts::one_choice, zl_flat::specs::Parts::one_automaton, crate::specs::Kept::with_block, crate::specs::Kept::with_occ, crate::specs::Kept::with_hidden, crate::specs::Kept::with_site, crate::specs::Kept::with_choice, crate::specs::Kept::with_automaton))]
 
 ghost use Rattle.std.specs.Prelude.{◌≡◌, ◌+◌, ◌<◌, [], ◌∷◌, length, OnOk, IfOk};
-ghost use Rattle.zl_expand.specs.Parts as spec;
+ghost use Rattle.zl_flat.specs.Parts as spec;
 ghost use Rattle.zl_expand.specs.Kept as kept;
 
 use std::alloc::{AllocError, Global};
 use std::marker::Model;
+use zl_flat::Given;
 use zl_meaning::{Auto, Block, BlockKind, Choice, Definer, Form, Occ, PlaceInfo, SiteInfo};
 use zl_value::{Pos, Sequence, Ty, Value};
-
-/// A definer, and the number of the place that it defines.
-#[derive(Debug, Drop)]
-pub struct Given {
-    pub place: u32,
-    pub definer: Definer,
-}
 
 /// What was made so far. The hidden occurrences, which no token has, stand apart.
 #[derive(Drop)]
@@ -31,7 +25,7 @@ pub(crate) struct Parts {
 }
 
 impl Model for Parts {
-    ghost use Rattle.zl_expand.specs.Parts.{Parts as TheParts};
+    ghost use Rattle.zl_flat.specs.Parts.{Parts as TheParts};
 
     ghost Value = { TheParts };
 

@@ -3,18 +3,18 @@
 
 ghost use Rattle.std.specs.Prelude.{◌≡◌, map, OnOk, IfOk};
 ghost use Rattle.zl_ast.specs.declared.eqn.State.{out-State};
-ghost use Rattle.zl_expand.specs.Parts.{joined};
-ghost use Rattle.zl_expand.specs.Equations as spec;
+ghost use Rattle.zl_flat.specs.Parts.{joined};
+ghost use Rattle.zl_flat.specs.Equations as spec;
 ghost use Rattle.zl_expand.specs.Walks.{Walks};
 ghost use Rattle.zl_expand.specs.Kept.{counters, instance_in, names_in, made_move};
 
-use crate::here::{Here, Root};
 use crate::instance::Instance;
 use crate::name_index::NameIndex;
 use crate::parts::{Parts, next, number};
 use crate::walker::Walker;
 use std::alloc::{AllocError, Global};
 use zl_ast::{Eqn, Expr, Move, State};
+use zl_flat::{Here, Root};
 use zl_meaning::{Auto, AutoMove, BlockKind};
 use zl_value::Sequence;
 

@@ -3,11 +3,12 @@
 
 ghost use Rattle.std.specs.Prelude.{◌≡◌, ◌++◌, [], map, OnOk, IfOk};
 ghost use Rattle.zl_value.specs.Lists.{listed};
-ghost use Rattle.zl_expand.specs.Expansion.{form_of};
+ghost use Rattle.zl_flat.specs.Expansion.{form_of};
 ghost use Rattle.zl_expand.specs.Tables as spec;
 
-use crate::parts::{Given, Parts};
+use crate::parts::Parts;
 use std::alloc::{AllocError, Global};
+use zl_flat::Given;
 use zl_meaning::{Auto, Block, Choice, Definer, Occ, PlaceInfo, SiteInfo};
 use zl_value::Sequence;
 

@@ -2,19 +2,19 @@
 #![tactic(auto, using(crate::proofs::WalkLaws::walking))]
 
 ghost use Rattle.std.specs.Prelude.{◌≡◌, map, OnOk, IfOk};
-ghost use Rattle.zl_expand.specs.Parts.{joined};
-ghost use Rattle.zl_expand.specs.Equations as spec;
-ghost use Rattle.zl_expand.specs.Equations.{up_walk, event_walk, cond_walk};
+ghost use Rattle.zl_flat.specs.Parts.{joined};
+ghost use Rattle.zl_flat.specs.Equations as spec;
+ghost use Rattle.zl_flat.specs.Equations.{up_walk, event_walk, cond_walk};
 ghost use Rattle.zl_expand.specs.Walks.{Walks};
 ghost use Rattle.zl_expand.specs.Kept.{counters, instance_in, names_in};
 
-use crate::here::{Here, Root};
 use crate::instance::Instance;
 use crate::parts::Parts;
 use crate::walk::hidden_number;
 use crate::walker::Walker;
 use std::alloc::{AllocError, Global};
 use zl_ast::{Cond, Eqn, Expr, Up};
+use zl_flat::{Here, Root};
 use zl_meaning::Form;
 use zl_value::{Pos, Sequence, Ty};
 

@@ -2,22 +2,22 @@
 #![tactic(auto, using(crate::proofs::WalkLaws::walking))]
 
 ghost use Rattle.std.specs.Prelude.{◌≡◌, ◌+◌, ◌<◌, [], ◌∷◌, map, length, Some, OnOk, IfOk};
-ghost use Rattle.zl_expand.specs.Parts.{joined};
-ghost use Rattle.zl_expand.specs.Instances.{root_occs};
-ghost use Rattle.zl_expand.specs.Expressions as spec;
-ghost use Rattle.zl_expand.specs.Operators.{prefix_form, built_in_op};
-ghost use Rattle.zl_expand.specs.Variables.{variable_of};
-ghost use Rattle.zl_expand.specs.Expressions.{expr_walk, link_walk};
+ghost use Rattle.zl_flat.specs.Parts.{joined};
+ghost use Rattle.zl_flat.specs.Instances.{root_occs};
+ghost use Rattle.zl_flat.specs.Expressions as spec;
+ghost use Rattle.zl_flat.specs.Operators.{prefix_form, built_in_op};
+ghost use Rattle.zl_flat.specs.Variables.{variable_of};
+ghost use Rattle.zl_flat.specs.Expressions.{expr_walk, link_walk};
 ghost use Rattle.zl_expand.specs.Walks.{Walks};
 ghost use Rattle.zl_expand.specs.Kept.{counters, instance_in, names_in};
 
-use crate::here::{Here, Root};
 use crate::instance::Instance;
 use crate::operators::{built_in_op, infix_form, prefix_type, result_type, value_type};
 use crate::parts::Parts;
 use crate::walker::Walker;
 use std::alloc::{AllocError, Global};
 use zl_ast::{Eqn, Expr, FlowOp, Link, Name, Prefix};
+use zl_flat::{Here, Root};
 use zl_meaning::Form;
 use zl_value::{Op, Pos, Sequence, Ty};
 

@@ -2,17 +2,17 @@
 #![tactic(auto)]
 
 ghost use Rattle.std.specs.Prelude.{◌≡◌, OnOk, IfOk};
-ghost use Rattle.zl_expand.specs.Parts.{joined};
-ghost use Rattle.zl_expand.specs.Expressions.{expr_walk};
-ghost use Rattle.zl_expand.specs.Equations.{eqns_walk};
+ghost use Rattle.zl_flat.specs.Parts.{joined};
+ghost use Rattle.zl_flat.specs.Expressions.{expr_walk};
+ghost use Rattle.zl_flat.specs.Equations.{eqns_walk};
 ghost use Rattle.zl_expand.specs.Walks.{Walks};
 ghost use Rattle.zl_expand.specs.Kept.{counters, instance_in, names_in, inside_in};
 
-use crate::here::{Here, Root};
 use crate::instance::Instance;
 use crate::parts::Parts;
 use std::alloc::{AllocError, Global};
 use zl_ast::{Decl, Eqn, Expr};
+use zl_flat::{Here, Root};
 
 /// How many walks can stand inside each other. A program whose constructs and calls are within their limits needs fewer.
 const ROOM: u32 = 1048576;

@@ -3,12 +3,12 @@ use Rattle.std.proofs.lemmas.List.{drop_more}
 use Rattle.zl_value.specs.declared.value.Ty.TheVariants.{Bool as BoolTy}
 use Rattle.zl_meaning.specs.declared.place.Definer.TheVariants.{Plain}
 use Rattle.zl_ast.specs.declared.program.Param.{Param}
-use Rattle.zl_expand.specs.declared.here.Here.{Here}
-use Rattle.zl_expand.specs.declared.here.Root.{Root}
-use Rattle.zl_expand.specs.declared.parts.Given.{Given}
-use Rattle.zl_expand.specs.Parts.{Parts, joined, some_definers}
-use Rattle.zl_expand.specs.Equations.{given}
-use Rattle.zl_expand.specs.Expansion.{argument_definers}
+use Rattle.zl_flat.specs.declared.here.Here.{Here}
+use Rattle.zl_flat.specs.declared.here.Root.{Root}
+use Rattle.zl_flat.specs.declared.given.Given.{Given}
+use Rattle.zl_flat.specs.Parts.{Parts, joined, some_definers}
+use Rattle.zl_flat.specs.Equations.{given}
+use Rattle.zl_flat.specs.Expansion.{argument_definers}
 use Rattle.zl_expand.proofs.PartsLaws.{more-definers}
 use Rattle.zl_expand.proofs.copy.add_arguments.Goals as goal
 

@@ -1,6 +1,6 @@
 use Rattle.std.proofs.Common.{◌≡◌, drop, length}
-use Rattle.zl_expand.specs.Parts.{joined, some_definers}
-use Rattle.zl_expand.specs.Expansion.{argument_definers}
+use Rattle.zl_flat.specs.Parts.{joined, some_definers}
+use Rattle.zl_flat.specs.Expansion.{argument_definers}
 use Rattle.zl_expand.proofs.copy.add_arguments.Given as goal
 
 abbrev pub invariant-loop-argument : goal.invariant-loop-argument

@@ -1,6 +1,6 @@
 use Rattle.std.proofs.Common.{◌≡◌, drop, map}
-use Rattle.zl_expand.specs.Parts.{joined, some_places}
-use Rattle.zl_expand.specs.Expansion.{param_place}
+use Rattle.zl_flat.specs.Parts.{joined, some_places}
+use Rattle.zl_flat.specs.Expansion.{param_place}
 use Rattle.zl_expand.specs.Kept.{instance_in}
 use Rattle.zl_expand.proofs.copy.add_params.Given as goal
 

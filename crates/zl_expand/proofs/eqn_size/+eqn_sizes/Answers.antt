@@ -1,10 +1,10 @@
 use Rattle.std.proofs.Common.{rules, ◌≡◌, map, refl, sym, ap, ◌∙◌}
-use Rattle.zl_expand.specs.Sizes as spec
-use Rattle.zl_expand.specs.Capped.{capped}
+use Rattle.zl_flat.specs.Sizes as spec
+use Rattle.zl_flat.specs.Capped.{capped}
 use Rattle.zl_expand.specs.KeptDecls.{infos_in, known_in}
 use Rattle.zl_expand.proofs.SizeSums.{sizes, sum-step, chain-four}
 use Rattle.zl_ast.specs.declared.eqn.State.{out-State}
-use Rattle.zl_expand.proofs.SizeSteps.{size-der, size-state}
+use Rattle.zl_flat.proofs.SizeSteps.{size-der, size-state}
 use Rattle.zl_expand.proofs.eqn_size.+eqn_sizes.Goals as goal
 
 pub arms_size-loop-arm-preserved : goal.arms_size-loop-arm-preserved

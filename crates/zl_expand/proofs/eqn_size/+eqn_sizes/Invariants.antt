@@ -1,6 +1,6 @@
 use Rattle.std.proofs.Common.{◌≡◌, drop, map}
-use Rattle.zl_expand.specs.Sizes as spec
-use Rattle.zl_expand.specs.Capped.{capped}
+use Rattle.zl_flat.specs.Sizes as spec
+use Rattle.zl_flat.specs.Capped.{capped}
 use Rattle.zl_expand.specs.KeptDecls.{infos_in, known_in}
 use Rattle.zl_expand.proofs.eqn_size.+eqn_sizes.Given as goal
 

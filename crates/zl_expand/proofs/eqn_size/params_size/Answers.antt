@@ -1,5 +1,5 @@
 use Rattle.std.proofs.Common.{rules}
-use Rattle.zl_expand.specs.Sizes as spec
+use Rattle.zl_flat.specs.Sizes as spec
 use Rattle.zl_expand.proofs.SizeSums.{repeated-step}
 use Rattle.zl_expand.proofs.eqn_size.params_size.Goals as goal
 

@@ -1,5 +1,5 @@
 use Rattle.std.proofs.Common.{rules}
-use Rattle.zl_expand.specs.Sizes as spec
+use Rattle.zl_flat.specs.Sizes as spec
 use Rattle.zl_expand.specs.KeptDecls.{infos_in, known_in}
 use Rattle.zl_expand.proofs.SizeSums.{sum-step}
 use Rattle.zl_expand.proofs.eqn_size.ups_size.Goals as goal

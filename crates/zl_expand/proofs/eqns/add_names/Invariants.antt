@@ -1,6 +1,6 @@
 use Rattle.std.proofs.Common.{◌≡◌, drop}
-use Rattle.zl_expand.specs.Parts.{joined}
-use Rattle.zl_expand.specs.Equations.{names_made}
+use Rattle.zl_flat.specs.Parts.{joined}
+use Rattle.zl_flat.specs.Equations.{names_made}
 use Rattle.zl_expand.specs.Kept.{counters, instance_in, names_in}
 use Rattle.zl_expand.proofs.eqns.add_names.Given as goal
 

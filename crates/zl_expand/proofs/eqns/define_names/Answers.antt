@@ -4,12 +4,12 @@ use Rattle.std.specs.Iterator.Adapters.{zip_first, zip_second}
 use Rattle.std.specs.Slice.Iter.{iter_rest}
 use Rattle.zl_ast.specs.declared.name.Name.{Name}
 use Rattle.zl_meaning.specs.declared.place.Definer.TheVariants.{Plain}
-use Rattle.zl_expand.specs.declared.here.Here.{Here}
-use Rattle.zl_expand.specs.declared.here.Root.{Root}
-use Rattle.zl_expand.specs.Parts.{Parts, joined, some_definers}
-use Rattle.zl_expand.specs.Variables.{variable_of}
-use Rattle.zl_expand.specs.Instances.{Instance}
-use Rattle.zl_expand.specs.Equations.{given, place_number, plain_definers}
+use Rattle.zl_flat.specs.declared.here.Here.{Here}
+use Rattle.zl_flat.specs.declared.here.Root.{Root}
+use Rattle.zl_flat.specs.Parts.{Parts, joined, some_definers}
+use Rattle.zl_flat.specs.Variables.{variable_of}
+use Rattle.zl_flat.specs.Instances.{Instance}
+use Rattle.zl_flat.specs.Equations.{given, place_number, plain_definers}
 use Rattle.zl_expand.specs.Kept.{instance_in}
 use Rattle.zl_expand.proofs.PartsLaws.{more-definers, joined-nothing, some-no_definers}
 use Rattle.zl_expand.proofs.eqns.define_names.Goals as goal

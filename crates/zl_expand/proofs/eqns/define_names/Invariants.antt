@@ -1,8 +1,8 @@
 use Rattle.std.proofs.Common.{◌≡◌}
 use Rattle.std.specs.Iterator.Adapters.{zip_first, zip_second}
 use Rattle.std.specs.Slice.Iter.{iter_rest}
-use Rattle.zl_expand.specs.Parts.{joined, some_definers}
-use Rattle.zl_expand.specs.Equations.{plain_definers}
+use Rattle.zl_flat.specs.Parts.{joined, some_definers}
+use Rattle.zl_flat.specs.Equations.{plain_definers}
 use Rattle.zl_expand.specs.Kept.{instance_in}
 use Rattle.zl_expand.proofs.eqns.define_names.Given as goal
 

@@ -1,7 +1,7 @@
 use Rattle.std.proofs.Common.{rules, ◌≡◌, ◌+◌, ◌++◌, [], ◌∷◌, ◌∙◌, arith}
 use Rattle.zl_meaning.specs.declared.place.Definer.TheVariants.{Input}
-use Rattle.zl_expand.specs.Parts.{joined, some_definers}
-use Rattle.zl_expand.specs.Equations.{given}
+use Rattle.zl_flat.specs.Parts.{joined, some_definers}
+use Rattle.zl_flat.specs.Equations.{given}
 use Rattle.zl_expand.proofs.ExpandLemmas.{inputs-step, numbers-step}
 use Rattle.zl_expand.proofs.expansion.add_inputs.Goals as goal
 

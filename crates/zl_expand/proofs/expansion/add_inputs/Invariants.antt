@@ -1,7 +1,7 @@
 use Rattle.std.proofs.Common.{◌≡◌, ◌++◌, drop, length}
 use Rattle.zl_value.specs.Lists.{listed}
-use Rattle.zl_expand.specs.Parts.{joined, some_definers}
-use Rattle.zl_expand.specs.Expansion.{input_definers}
+use Rattle.zl_flat.specs.Parts.{joined, some_definers}
+use Rattle.zl_flat.specs.Expansion.{input_definers}
 use Rattle.zl_expand.proofs.expansion.add_inputs.Given as goal
 
 abbrev pub invariant-loop-param : goal.invariant-loop-param

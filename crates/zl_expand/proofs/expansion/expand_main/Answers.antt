@@ -1,12 +1,12 @@
 use Rattle.std.proofs.Common.{rules, ◌≡◌, List, [], map, take, get_or, ap, ◌∙◌, refl}
-use Rattle.zl_expand.specs.declared.size.Size.{Size}
+use Rattle.zl_flat.specs.declared.size.Size.{Size}
 use Rattle.zl_expand.specs.declared.decls.Declared.{Declared}
 use Rattle.zl_expand.specs.declared.decls.Known.{Known}
 use Rattle.zl_expand.specs.declared.limits.Measured.{Measured}
-use Rattle.zl_expand.specs.Capped.{capped}
-use Rattle.zl_expand.specs.ScopedDecls.{with_sizes}
+use Rattle.zl_flat.specs.Capped.{capped}
+use Rattle.zl_flat.specs.ScopedDecls.{with_sizes}
 use Rattle.zl_expand.specs.KeptDecls.{scoped_in, program_in, IsMeasured}
-use Rattle.zl_expand.specs.Flat.{IsFlatOf}
+use Rattle.zl_flat.specs.Flat.{IsFlatOf}
 use Rattle.zl_expand.proofs.LimitLemmas.{sizes-whole, scoped-decl}
 use Rattle.zl_expand.proofs.ExpandLemmas.{is-flat, of-tables}
 use Rattle.zl_expand.proofs.expansion.expand_main.Goals as goal

@@ -1,5 +1,5 @@
 use Rattle.std.proofs.Common.{◌≡◌, ◌++◌, drop}
-use Rattle.zl_expand.specs.Expansion.{result_places}
+use Rattle.zl_flat.specs.Expansion.{result_places}
 use Rattle.zl_expand.specs.Kept.{instance_in}
 use Rattle.zl_expand.proofs.expansion.result_places.Given as goal
 

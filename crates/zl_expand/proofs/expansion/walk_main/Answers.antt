@@ -3,10 +3,10 @@ use Rattle.zl_value.specs.Lists.{listed}
 use Rattle.zl_ast.specs.NamesRules.{is_hybrid}
 use Rattle.zl_meaning.specs.declared.block.BlockKind.TheVariants.{Main}
 use Rattle.zl_expand.specs.declared.instance.Instance.{Instance as TheInstance}
-use Rattle.zl_expand.specs.declared.here.Here.{Here}
-use Rattle.zl_expand.specs.Parts.{joined, nothing, one_block, some_places, some_definers}
-use Rattle.zl_expand.specs.Numbering.{decl_numbering}
-use Rattle.zl_expand.specs.Expansion.{input_definers, param_place, result_places}
+use Rattle.zl_flat.specs.declared.here.Here.{Here}
+use Rattle.zl_flat.specs.Parts.{joined, nothing, one_block, some_places, some_definers}
+use Rattle.zl_flat.specs.Numbering.{decl_numbering}
+use Rattle.zl_flat.specs.Expansion.{input_definers, param_place, result_places}
 use Rattle.zl_expand.specs.KeptDecls.{infos_in, known_in}
 use Rattle.zl_expand.specs.Kept.{counters, instance_in, inside_in}
 use Rattle.zl_expand.proofs.ExpandLemmas.{main-made, main-formed, same-form}

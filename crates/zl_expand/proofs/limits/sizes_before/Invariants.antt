@@ -1,6 +1,6 @@
 use Rattle.std.proofs.Common.{◌≡◌, [], map, take}
-use Rattle.zl_expand.specs.Capped.{capped}
-use Rattle.zl_expand.specs.ScopedDecls.{with_sizes}
+use Rattle.zl_flat.specs.Capped.{capped}
+use Rattle.zl_flat.specs.ScopedDecls.{with_sizes}
 use Rattle.zl_expand.specs.KeptDecls.{scoped_in}
 use Rattle.zl_expand.proofs.limits.sizes_before.Given as goal
 

@@ -1,10 +1,10 @@
 use Rattle.std.proofs.Common.{rules, OnOk, map, sym, ap, ◌∙◌}
 use Rattle.zl_ast.specs.declared.eqn.Arm.{out-Arm}
 use Rattle.zl_ast.specs.declared.eqn.State.{out-State}
-use Rattle.zl_expand.specs.Sizes as sizes
-use Rattle.zl_expand.specs.Numbering as spec
+use Rattle.zl_flat.specs.Sizes as sizes
+use Rattle.zl_flat.specs.Numbering as spec
 use Rattle.zl_expand.specs.Kept.{infos_in, known_in, Numbers}
-use Rattle.zl_expand.proofs.NumberingSteps.{numbering-arm, numbering-state, numbering-der}
+use Rattle.zl_flat.proofs.NumberingSteps.{numbering-arm, numbering-state, numbering-der}
 use Rattle.zl_expand.proofs.NumberingSums.{both-made, as-numbered, on-ok, turn-step}
 use Rattle.zl_expand.proofs.numbering.+numbering.Goals as goal
 

@@ -1,5 +1,5 @@
 use Rattle.std.proofs.Common.{◌≡◌, ◌++◌, drop, map}
-use Rattle.zl_expand.specs.Numbering as spec
+use Rattle.zl_flat.specs.Numbering as spec
 use Rattle.zl_expand.specs.KeptDecls.{infos_in, known_in}
 use Rattle.zl_expand.proofs.numbering.number_names.Given as goal
 

@@ -1,5 +1,5 @@
 use Rattle.std.proofs.Common.{◌≡◌, ◌++◌, drop, map}
-use Rattle.zl_expand.specs.Numbering as spec
+use Rattle.zl_flat.specs.Numbering as spec
 use Rattle.zl_expand.proofs.numbering.number_params.Given as goal
 
 abbrev pub invariant-loop-param : goal.invariant-loop-param

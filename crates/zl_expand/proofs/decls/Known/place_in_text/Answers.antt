@@ -1,7 +1,7 @@
 use Rattle.std.proofs.Common.{rules, ◌≡◌, Some, None, slice_get, length, refl, ap, sym, ◌∙◌}
 use Rattle.std.proofs.lemmas.Option.{slice_get_past, slice_get_read}
 use Rattle.zl_expand.specs.KeptDecls.{infos_in}
-use Rattle.zl_expand.specs.FirstPlaces.{place_in_text}
+use Rattle.zl_flat.specs.FirstPlaces.{place_in_text}
 use Rattle.zl_expand.proofs.KnownLemmas.{its-infos, no-infos, text-found, text-past, text-none}
 use Rattle.zl_expand.proofs.decls.Known.place_in_text.Goals as goal
 

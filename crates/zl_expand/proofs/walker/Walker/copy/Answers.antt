@@ -2,8 +2,8 @@ use Rattle.std.proofs.Common.{rules, ◌≡◌, ◌<◌, map, length, Some, slic
 use Rattle.std.specs.List.{position}
 use Rattle.std.specs.Prelude.{nat_eq}
 use Rattle.std.proofs.lemmas.Option.{slice_get_read}
-use Rattle.zl_expand.specs.Parts.{joined, some_places, some_definers}
-use Rattle.zl_expand.specs.Expansion.{argument_definers, param_place}
+use Rattle.zl_flat.specs.Parts.{joined, some_places, some_definers}
+use Rattle.zl_flat.specs.Expansion.{argument_definers, param_place}
 use Rattle.zl_expand.specs.KeptDecls.{scoped_in}
 use Rattle.zl_expand.specs.Kept.{instance_in}
 use Rattle.zl_expand.proofs.CopyLemmas.{fewer-sized}

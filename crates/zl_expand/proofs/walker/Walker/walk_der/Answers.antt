@@ -1,7 +1,7 @@
 use Rattle.std.proofs.Common.{map, ap, ◌∙◌}
-use Rattle.zl_expand.specs.Parts.{joined}
-use Rattle.zl_expand.specs.Expressions.{expr_walk}
-use Rattle.zl_expand.specs.Equations.{name_made, start_walk, reset_arm_walk}
+use Rattle.zl_flat.specs.Parts.{joined}
+use Rattle.zl_flat.specs.Expressions.{expr_walk}
+use Rattle.zl_flat.specs.Equations.{name_made, start_walk, reset_arm_walk}
 use Rattle.zl_expand.specs.Kept.{counters, instance_in, names_in}
 use Rattle.zl_expand.proofs.EqnMade.{IsDer, der-made}
 use Rattle.zl_expand.proofs.walker.Walker.walk_der.Goals as goal

@@ -1,4 +1,4 @@
-use Rattle.zl_expand.specs.Expressions.{expr_walk}
+use Rattle.zl_flat.specs.Expressions.{expr_walk}
 use Rattle.zl_expand.specs.Kept.{instance_in, names_in}
 use Rattle.zl_expand.proofs.FlowMade.{IsFollowed, followed-made}
 use Rattle.zl_expand.proofs.StateLemmas.{hidden-room}

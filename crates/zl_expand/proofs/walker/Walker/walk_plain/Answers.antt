@@ -1,8 +1,8 @@
 use Rattle.std.proofs.Common.{rules, ◌≡◌, None, sym, ap, ◌∙◌, arith}
 use Rattle.zl_ast.specs.declared.expr.Expr.TheVariants as tree
-use Rattle.zl_expand.specs.Parts.{joined}
-use Rattle.zl_expand.specs.Operators.{built_in_op}
-use Rattle.zl_expand.specs.Equations.{names_made}
+use Rattle.zl_flat.specs.Parts.{joined}
+use Rattle.zl_flat.specs.Operators.{built_in_op}
+use Rattle.zl_flat.specs.Equations.{names_made}
 use Rattle.zl_expand.specs.Kept.{counters, instance_in, names_in}
 use Rattle.zl_expand.proofs.EqnMade.{IsDefinedByCall, call-defines}
 use Rattle.zl_expand.proofs.walker.Walker.walk_plain.Goals as goal

@@ -1,6 +1,6 @@
 use Rattle.std.proofs.Common.{◌≡◌, ◌++◌, drop, map}
-use Rattle.zl_expand.specs.Parts.{joined}
-use Rattle.zl_expand.specs.Equations as spec
+use Rattle.zl_flat.specs.Parts.{joined}
+use Rattle.zl_flat.specs.Equations as spec
 use Rattle.zl_expand.specs.Kept.{counters, instance_in, names_in}
 use Rattle.zl_expand.proofs.walker.Walker.walk_resets.Given as goal
 

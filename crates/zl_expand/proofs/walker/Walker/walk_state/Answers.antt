@@ -1,9 +1,9 @@
 use Rattle.std.proofs.Common.{rules, ◌≡◌, map, sym, ap, ◌∙◌}
 use Rattle.zl_ast.specs.declared.eqn.State.{out-State}
-use Rattle.zl_expand.specs.Parts.{joined, one_block}
-use Rattle.zl_expand.specs.Equations.{moves_made, move_walk, body_walk, one_state_walk}
+use Rattle.zl_flat.specs.Parts.{joined, one_block}
+use Rattle.zl_flat.specs.Equations.{moves_made, move_walk, body_walk, one_state_walk}
 use Rattle.zl_expand.specs.Kept.{counters, instance_in, names_in}
-use Rattle.zl_expand.proofs.EqnSteps.{make-state_walk}
+use Rattle.zl_flat.proofs.EqnSteps.{make-state_walk}
 use Rattle.zl_expand.proofs.StateLemmas.{state-parts, state-moves, on-ok, if-ok}
 use Rattle.zl_expand.proofs.walker.Walker.walk_state.Goals as goal
 

@@ -1,5 +1,0 @@
-use Rattle.zl_expand.proofs.CheckedPrograms.{counts-are-lengths}
-use Rattle.zl_expand.proofs.laws.counts_are_lengths.Goals as goal
-
-pub returns : goal.returns
-returns c = counts-are-lengths
