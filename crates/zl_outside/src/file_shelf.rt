@@ -89,26 +89,3 @@ fn read_front<F: Read>(file: &mut F, cap: usize, out: &mut Vec<u8>) -> Result<()
     }
     Err(ReadAnswer::Failed)
 }
-
-#[cfg(test)]
-mod tests {
-    use super::*;
-    use std::test::Fail;
-
-    #[test]
-    fn reads_the_front_of_a_file(rt: HostRuntime) -> Result<(), Fail> {
-        fs::write(&rt, "front.txt", "some bytes")?;
-        let mut shelf = FileShelf::new(&rt, rt.alloc());
-        let mut out = Vec::new(rt.alloc());
-        assert_eq!(rt; shelf.read("front.txt", 100, &mut out), Ok(()));
-        assert_eq!(rt; out.as_slice(), b"some bytes".as_slice());
-        assert_eq!(rt; shelf.read("front.txt", 4, &mut out), Ok(()));
-        assert_eq!(rt; out.as_slice(), b"some".as_slice());
-        assert_eq!(rt;
-            shelf.read("missing.txt", 4, &mut out),
-            Err(ReadAnswer::Failed)
-        );
-        fs::remove_file(&rt, "front.txt")?;
-        Ok(())
-    }
-}

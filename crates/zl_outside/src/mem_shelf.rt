@@ -128,34 +128,3 @@ fn copy_front(bytes: &[u8], cap: usize, out: &mut Vec<u8>) -> Result<(), ReadAns
     out.extend_from_slice(&bytes[..cap.min(bytes.len())])?;
     Ok(())
 }
-
-#[cfg(test)]
-mod tests {
-    use super::*;
-    use std::test::Fail;
-
-    #[test]
-    fn reads_the_newest_file_of_a_name(rt: HostRuntime) -> Result<(), Fail> {
-        let mut shelf = MemShelf::new(rt.alloc());
-        shelf.add("a", b"old")?;
-        shelf.add("b", b"other")?;
-        shelf.add("a", b"newer")?;
-        shelf.fail_at(3)?;
-        let mut out = Vec::new(rt.alloc());
-        assert_eq!(rt; shelf.read("a", 3, &mut out), Ok(()));
-        assert_eq!(rt; out.as_slice(), b"new".as_slice());
-        assert_eq!(rt; shelf.read("b", 9, &mut out), Ok(()));
-        assert_eq!(rt; out.as_slice(), b"other".as_slice());
-        assert_eq!(rt;
-            shelf.read("b", 9, &mut out),
-            Err(ReadAnswer::Failed),
-            "planned"
-        );
-        assert_eq!(rt;
-            shelf.read("c", 9, &mut out),
-            Err(ReadAnswer::Failed),
-            "not held"
-        );
-        Ok(())
-    }
-}

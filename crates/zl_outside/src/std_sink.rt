@@ -65,15 +65,3 @@ fn write_whole<R: Print>(rt: &R, piece: &[u8]) -> Result<(), Failed>
     }
     Ok(())
 }
-
-#[cfg(test)]
-mod tests {
-    use super::*;
-
-    #[test]
-    fn writes_to_standard_output(rt: HostRuntime) {
-        let mut sink = StdSink::new(&rt);
-        assert_eq!(rt; sink.put(b""), Ok(()));
-        assert_eq!(rt; sink.put(b"a line\n"), Ok(()));
-    }
-}

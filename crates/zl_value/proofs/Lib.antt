@@ -1,6 +1,7 @@
 pub mod AcceptedNumbers
 pub mod Acyclic
 pub mod Computes
+pub mod Correspondence
 pub mod Decimals
 pub mod Divisors
 pub mod Durations
@@ -9,6 +10,7 @@ pub mod FractionLaws
 pub mod FractionOrder
 pub mod Fractions
 pub mod LinearLaws
+pub mod OneRun
 pub mod Odd
 pub mod RatioLemmas
 pub mod Ratios

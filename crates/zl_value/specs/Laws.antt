@@ -1,9 +1,14 @@
 -- What is proved of the definitions themselves. Each statement is the contract of a function that does nothing.
-use Rattle.std.specs.Prelude.{◌≡◌, ◌⊎◌, ℕ, ℤ, pos, Bool, true, false}
+use Rattle.std.specs.Prelude.{◌≡◌, ◌⊎◌, ℕ, ℤ, pos, Bool, true, false, List}
 use Rattle.zl_value.specs.Fraction.{Fraction, IsReduced, add, sub, mul, neg, div, whole}
 use Rattle.zl_value.specs.Order.{below}
 use Rattle.zl_value.specs.FixedPoints.{IsRanked, HasOneSolution}
 use Rattle.zl_value.specs.Relations.{IsWithin, IsAcyclic, IsRanking, HasRanks, HasCycle}
+use Rattle.zl_value.specs.Instants.{History}
+use Rattle.zl_value.specs.System.{System}
+use Rattle.zl_value.specs.Correspondence.{Correspondence, KeepsRuns}
+use Rattle.zl_value.specs.OneRun.{Determines, HasOneRun}
+use Rattle.zl_value.specs.declared.script.Script.{Script}
 
 -- fractions in lowest terms are a field: what is made from them is in lowest terms, sums and products commute and associate,
 -- products go over sums, zero and one change nothing, a difference undoes a sum, and a quotient by what isn't zero undoes a product
@@ -55,3 +60,15 @@ RanksOrCycle = (needs : ℕ → ℕ → Bool) (n : ℕ) → IsWithin n needs →
 -- what has ranks has no cycles
 abbrev pub RankedIsAcyclic : Type 0
 RankedIsAcyclic = (needs : ℕ → ℕ → Bool) (rank : ℕ → ℕ) → IsRanking needs rank → IsAcyclic needs
+
+-- the relation that is given by its pairs
+abbrev pub Relates : {W P Q : Type 0} → (W → P) → (W → Q) → P → Q → Type 0
+Relates {W} first second p q = (w : W) × (first w ≡ p) × (second w ≡ q)
+
+-- where each step and each flow of `A` corresponds to one of `B`, each run of `A` does; the pairs `W` say what stands beside what
+abbrev pub CorrespondingRuns : Type 0 → Type 0 → Type 0 → Type 0 → Type 0 → Type 0
+CorrespondingRuns X Y U V W = (A : System X Y) (B : System U V) (script : Script) (pick : List ℕ → List ℕ) (first : W → History X) (second : W → History U) → Correspondence A B script pick (Relates first second) → KeepsRuns A B script pick (Relates first second)
+
+-- where the steps and the flows of a system are the only ones, its runs are
+abbrev pub DeterminedRuns : Type 0 → Type 0 → Type 0
+DeterminedRuns X Y = (sys : System X Y) (script : Script) → Determines sys script → HasOneRun sys script

@@ -184,34 +184,3 @@ fn over_ten_to(number: u128, exponent: u32) -> Option<Frac>
 {
     Frac::make(number as i128, 10u128.pow(exponent) as i128).ok()
 }
-
-#[cfg(test)]
-mod tests {
-    use super::*;
-
-    #[test]
-    fn reads_numbers(rt: HostRuntime) {
-        let cases: [(&[u8], Option<(i64, i64)>); 14] = [
-            (b"0.1", Some((1, 10))),
-            (b"1.5e3", Some((1500, 1))),
-            (b"12.", Some((12, 1))),
-            (b"1E+2", Some((100, 1))),
-            (b"1250e-3", Some((5, 4))),
-            (b"9223372036854775807.0", Some((i64::MAX, 1))),
-            (b"9223372036854775808.0", None),
-            (b"0e99999", Some((0, 1))),
-            (
-                b"0000000000000000000000000000000000000000000000000000000000001.0",
-                Some((1, 1)),
-            ),
-            (b"1e-19", None),
-            (b"1e-99999999999999999999999999999999999999999", None),
-            (b"12", None),
-            (b".5", None),
-            (b"1.5e", None),
-        ];
-        for (text, want) in cases {
-            assert_eq!(rt; read_decimal(text).map(|f| (f.num(), f.den())), want);
-        }
-    }
-}

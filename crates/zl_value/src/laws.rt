@@ -1,5 +1,5 @@
 //! Laws of the definitions. Each function does nothing, and its contract is the law.
-ghost use Rattle.zl_value.specs.Laws.{AreField, AreOrdered, StaysNegative, RankedHasOneSolution, AcyclicHasRanks, RanksOrCycle, RankedIsAcyclic};
+ghost use Rattle.zl_value.specs.Laws.{AreField, AreOrdered, StaysNegative, RankedHasOneSolution, AcyclicHasRanks, RanksOrCycle, RankedIsAcyclic, CorrespondingRuns, DeterminedRuns};
 
 /// Fractions in lowest terms are a field.
 pub fn fractions_are_field()
@@ -36,12 +36,12 @@ pub fn ranked_is_acyclic()
     ensures { RankedIsAcyclic }
 {}
 
-#[cfg(test)]
-mod tests {
-    use super::*;
+/// Where each step and each flow of one system corresponds to one of another, so does each run.
+pub fn runs_correspond<X, Y, U, V, W>()
+    ensures { CorrespondingRuns X Y U V W }
+{}
 
-    #[test]
-    fn ranked_at_numbers_and_tests() {
-        ranked_has_one_solution::<u8, bool>();
-    }
-}
+/// A system whose steps and flows are the only ones has at most one run with a script.
+pub fn determined_has_one_run<X, Y>()
+    ensures { DeterminedRuns X Y }
+{}

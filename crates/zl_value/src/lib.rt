@@ -18,6 +18,7 @@ mod text;
 mod thin;
 mod value;
 mod value_text;
+pub mod worked;
 
 pub use arith::Arith;
 pub use decimal::read_decimal;

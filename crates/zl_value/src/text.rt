@@ -58,14 +58,3 @@ impl PartialEq for Text {
 impl Eq for Text {
     ghost laws = { nat_list_eq_equiv };
 }
-
-#[cfg(test)]
-mod tests {
-    use super::*;
-
-    #[test]
-    fn copies_bytes(rt: HostRuntime) {
-        let text = Text::make(rt.alloc(), b"speed").expect(&rt, "there is memory");
-        assert_eq!(rt; text.bytes(), b"speed".as_slice());
-    }
-}

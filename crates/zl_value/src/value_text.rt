@@ -111,38 +111,3 @@ pub fn print_position(out: &mut Vec<u8>, at: Pos) -> Result<(), Memory>
         Err(_) => Err(Memory),
     }
 }
-
-#[cfg(test)]
-mod tests {
-    use super::*;
-
-    #[test]
-    fn writes_into_a_room(rt: HostRuntime) {
-        let third = Frac::make(-1, 3).expect(&rt, "a third fits");
-        let mut room = [b'.'; 44];
-        let end = write_value(&mut room, 2, Value::F(third));
-        assert_eq!(rt; end, 6);
-        assert_eq!(rt; &room[..8], b"..-1/3..".as_slice());
-    }
-
-    #[test]
-    fn prints_values(rt: HostRuntime) {
-        let mut out = Vec::new(rt.alloc());
-        for value in [Value::B(true), Value::B(false), Value::I(i64::MIN)] {
-            print_value(&mut out, value).expect(&rt, "there is memory");
-        }
-        print_number(&mut out, 18446744073709551615).expect(&rt, "there is memory");
-        print_position(
-            &mut out,
-            Pos {
-                line: 12,
-                column: 3,
-            },
-        )
-        .expect(&rt, "there is memory");
-        assert_eq!(rt;
-            out.as_slice(),
-            b"truefalse-92233720368547758081844674407370955161512:3".as_slice()
-        );
-    }
-}
