@@ -9,6 +9,7 @@ pub mod LoopLemmas
 pub mod NameLemmas
 pub mod NumberLemmas
 pub mod PlaceLemmas
+pub mod ReadTexts
 pub mod ReadingLemmas
 pub mod StepLemmas
 pub mod TextLemmas

@@ -9,8 +9,6 @@ mod names;
 mod number;
 mod place;
 mod sign;
-#[cfg(test)]
-mod tests;
 mod token;
 mod word;
 

@@ -57,9 +57,7 @@ impl Names {
         }
         let at = self.set.len() as u32;
         let owned = String::from_str(alloc, name)?;
-        let Ok(_) = self.set.insert(owned) else {
-            return Err(AllocError);
-        };
+        self.set.insert(owned)?;
         Ok(at)
     }
 }

@@ -18,7 +18,7 @@ returns-clause-number c =
 pub returns-clause-names : goal.returns-clause-names
 returns-clause-names c =
     inserted c.self.inside.set.keys c.insert.new.self.keys c.args.self.now c.args.name.now c.in_ok-owned.owned c.self.view_is
-    c.in_ok-owned.ensures.ok c.in-Ok.ensures.keys
+    c.in_ok-owned.ensures.ok c.in_ok-insert.ensures.keys
 
 pub returns-clause-within : goal.returns-clause-within
 returns-clause-within c =
