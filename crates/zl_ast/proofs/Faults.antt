@@ -36,7 +36,7 @@ pub data Sized {A : Type 0} (c : Bool) (n : ℕ) : Result (A × List Token) Faul
   at_deep : (left : ℕ) → 1 ≤ left → left ≤ n → Sized c n (Err (deep left))
 
 infixl 10 ◌next◌
-◌next◌ : {A B : Type 0} {c d : Bool} {n : ℕ} {r : Result (A × List Token) Fault} {f : A × List Token → Result (B × List Token) Fault} →
+pub ◌next◌ : {A B : Type 0} {c d : Bool} {n : ℕ} {r : Result (A × List Token) Fault} {f : A × List Token → Result (B × List Token) Fault} →
     Sized c n r → ((x : A × List Token) → Room c (length x.1) n → Sized d n (f x)) → Sized d n (r >>= f)
 unfolding ◌>>=◌
 (ok y le) next k = k y le
@@ -51,7 +51,7 @@ Bounded p = (n : ℕ) (ts : List Token) → length ts ≤ n → Sized false n (p
 abbrev pub After : {A : Type 0} → Reader A → Type 0
 After p = (n : ℕ) (ts : List Token) → suc (length ts) ≤ n → Sized false n (p ts)
 
-bounded_after : {A : Type 0} (p : Reader A) → Bounded p → After p
+pub bounded_after : {A : Type 0} (p : Reader A) → Bounded p → After p
 bounded_after p b n ts le = b n ts (omega arith)
 
 nothing_after : {A : Type 0} → After {A = A} nothing
@@ -61,7 +61,7 @@ take_at_sized : (b : Bool) (n : ℕ) (t : Token) (ts : List Token) → suc (leng
 take_at_sized true n t ts le = ok (t.at, ts) (omega arith)
 take_at_sized false n t ts le = at_parse (suc (length ts)) le
 
-take_sized : (k : TokenKind) (n : ℕ) (ts : List Token) → length ts ≤ n → Sized true n (take k ts)
+pub take_sized : (k : TokenKind) (n : ℕ) (ts : List Token) → length ts ≤ n → Sized true n (take k ts)
 unfolding take
 take_sized k n [] le = at_parse 0 (omega arith)
 take_sized k n (t ∷ ts) le = take_at_sized (same_mark k t.kind) n t ts (omega arith)
@@ -70,7 +70,7 @@ find_at_sized : {A : Type 0} (o : Option A) (n : ℕ) (t : Token) (ts : List Tok
 find_at_sized (Some a) n t ts le = ok ((a, t.at), ts) (omega arith)
 find_at_sized None n t ts le = at_parse (suc (length ts)) le
 
-find_sized : {A : Type 0} (table : TokenKind → Option A) (n : ℕ) (ts : List Token) → length ts ≤ n → Sized true n (find table ts)
+pub find_sized : {A : Type 0} (table : TokenKind → Option A) (n : ℕ) (ts : List Token) → length ts ≤ n → Sized true n (find table ts)
 unfolding find
 find_sized table n [] le = at_parse 0 (omega arith)
 find_sized table n (t ∷ ts) le = find_at_sized (table t.kind) n t ts (omega arith)
@@ -79,7 +79,7 @@ name_at_sized : (k : TokenKind) (n : ℕ) (t : Token) (ts : List Token) → suc 
 name_at_sized (kind.Name id) n t ts le = ok (record { id = id; at = t.at }, ts) (omega arith)
 name_at_sized _ n t ts le = at_parse (suc (length ts)) le
 
-name_bounded : Bounded name
+pub name_bounded : Bounded name
 unfolding name
 name_bounded n [] le = at_parse 0 (omega arith)
 name_bounded n (t ∷ ts) le = name_at_sized t.kind n t ts (omega arith)
@@ -103,7 +103,7 @@ list_after : {A : Type 0} (k : TokenKind) (p : Reader A) → After p → After (
 unfolding list_of
 list_after k p a n ts le = a n ts le next λ x lx. others_bounded k p a (length x.1) n x.1 (omega arith) next λ xs lxs. ok (x.0 ∷ xs.0, xs.1) lxs
 
-list_bounded : {A : Type 0} (k : TokenKind) (p : Reader A) → Bounded p → Bounded (list_of k p)
+pub list_bounded : {A : Type 0} (k : TokenKind) (p : Reader A) → Bounded p → Bounded (list_of k p)
 unfolding list_of
 list_bounded k p b n ts le = b n ts le next λ x lx. others_bounded k p (bounded_after p b) (length x.1) n x.1 (omega arith) next λ xs lxs. ok (x.0 ∷ xs.0, xs.1) lxs
 
@@ -111,7 +111,7 @@ maybe_at_sized : {A : Type 0} (b : Bool) (k : TokenKind) (p : Reader A) → Afte
 maybe_at_sized true k p a n ts le = take_sized k n ts le next λ o lo. a n o.1 (omega arith) next λ x lx. ok (Some x.0, x.1) lx
 maybe_at_sized false k p a n ts le = ok (None, ts) (omega arith)
 
-maybe_bounded : {A : Type 0} (k : TokenKind) (p : Reader A) → After p → Bounded (maybe k p)
+pub maybe_bounded : {A : Type 0} (k : TokenKind) (p : Reader A) → After p → Bounded (maybe k p)
 unfolding maybe
 maybe_bounded k p a n ts le = maybe_at_sized (next_is k ts) k p a n ts le
 
@@ -133,6 +133,15 @@ to_close_after : {A : Type 0} (p : Reader A) → After p → After (to_close p)
 unfolding to_close
 to_close_after p a n ts le = to_close_at_after (next_is (kind.Sign sign.Close) ts) p a n ts le
 
+to_close_at_bounded : {A : Type 0} (b : Bool) (p : Reader A) → Bounded p → Bounded (to_close_at b p)
+to_close_at_bounded true p a n ts le = take_sized (kind.Sign sign.Close) n ts le next λ c lc. ok ([], c.1) (omega arith)
+to_close_at_bounded false p a n ts le =
+    list_bounded (kind.Sign sign.Comma) p a n ts le next λ xs lxs. take_sized (kind.Sign sign.Close) n xs.1 (omega arith) next λ c lc. ok (xs.0, c.1) (omega arith)
+
+pub to_close_bounded : {A : Type 0} (p : Reader A) → Bounded p → Bounded (to_close p)
+unfolding to_close
+to_close_bounded p a n ts le = to_close_at_bounded (next_is (kind.Sign sign.Close) ts) p a n ts le
+
 tuple_bounded : (m : ℕ) → Bounded (tuple m)
 unfolding tuple
 tuple_bounded m n ts le =
@@ -142,7 +151,7 @@ tuple_bounded m n ts le =
 
 -- ---- expressions
 
-drop_less : (ts : List Token) → length (drop 1 ts) ≤ length ts
+pub drop_less : (ts : List Token) → length (drop 1 ts) ≤ length ts
 drop_less [] = omega arith
 drop_less (t ∷ ts) = omega arith
 
@@ -225,11 +234,11 @@ module _ (p : Reader Expr) (a : After p) (q : Reader Expr) (b : After q) where
 mutual
   unfolding read_expr
 
-  expr_bounded : (m : ℕ) → Bounded (read_expr m)
+  pub expr_bounded : (m : ℕ) → Bounded (read_expr m)
   expr_bounded zero = expr_of_bounded nothing nothing_after nothing nothing_after zero
   expr_bounded (suc m) = expr_of_bounded (read_expr m) (bounded_after _ (expr_bounded m)) (read_pref m) (bounded_after _ (pref_of_bounded m)) (suc m)
 
-  pref_of_bounded : (m : ℕ) → Bounded (read_pref m)
+  pub pref_of_bounded : (m : ℕ) → Bounded (read_pref m)
   pref_of_bounded zero = pref_bounded nothing nothing_after nothing nothing_after zero
   pref_of_bounded (suc m) = pref_bounded (read_expr m) (bounded_after _ (expr_bounded m)) (read_pref m) (bounded_after _ (pref_of_bounded m)) (suc m)
 
@@ -254,7 +263,7 @@ cond_at_bounded true m n ts le =
     take_sized (kind.Sign sign.Close) n x.1 lx next λ c lc. ok (_, c.1) (omega arith)
 cond_at_bounded false m n ts le = event_bounded m n ts le next λ ups l. ok (_, ups.1) l
 
-cond_bounded : (m : ℕ) → Bounded (cond m)
+pub cond_bounded : (m : ℕ) → Bounded (cond m)
 unfolding cond
 cond_bounded m n ts le = cond_at_bounded (next_is (kind.Sign sign.Open) ts) m n ts le
 
@@ -297,16 +306,24 @@ state_end_at_bounded true m n ts le = take_sized (kind.Word word.Done) n ts le n
 state_end_at_bounded false m n ts le =
     find_sized move_word n ts le next λ w lw. move_from_bounded m w.0.0 w.0.1 n w.1 (omega arith) next λ ms lms. moves_bounded m (length ms.1) n ms.1 lms next λ os los. ok (_, os.1) los
 
-state_end_bounded : (m : ℕ) → Bounded (state_end m)
+pub state_end_bounded : (m : ℕ) → Bounded (state_end m)
 unfolding state_end
 state_end_bounded m n ts le = state_end_at_bounded (next_is (kind.Word word.Done) ts) m n ts le
 
-locals_bounded : Bounded locals
+pub locals_bounded : Bounded locals
 unfolding locals
 locals_bounded n ts le = list_bounded (kind.Sign sign.Comma) name name_bounded n ts le next λ xs lxs. take_sized (kind.Word word.In) n xs.1 lxs next λ i li. ok (xs.0, i.1) (omega arith)
 
-maybe_locals_bounded : Bounded (maybe (kind.Word word.Local) locals)
+pub maybe_locals_bounded : Bounded (maybe (kind.Word word.Local) locals)
 maybe_locals_bounded = maybe_bounded (kind.Word word.Local) locals (bounded_after locals locals_bounded)
+
+do_at_bounded : (p : Reader (List Eqn)) → Bounded p → (b : Bool) → Bounded (do_eqs_at b p)
+do_at_bounded p a true n ts le = ok ([], ts) (omega arith)
+do_at_bounded p a false n ts le = a n ts le
+
+pub do_bounded : (p : Reader (List Eqn)) → Bounded p → Bounded (do_eqs p)
+unfolding do_eqs
+do_bounded p a n ts le = do_at_bounded p a (do_ends ts) n ts le
 
 module _ (p : Reader (List Eqn)) (a : After p) where
   do_at_after : (b : Bool) → After (do_eqs_at b p)
@@ -363,18 +380,18 @@ module _ (p : Reader (List Eqn)) (a : After p) where
   eqn_bounded m n [] le = at_parse 0 (omega arith)
   eqn_bounded m n (t ∷ ts) le = eqn_at_sized m n (t ∷ ts) t.at ts t.kind le (omega arith)
 
-eqs_bounded : (m : ℕ) → Bounded (read_eqs m)
+pub eqs_bounded : (m : ℕ) → Bounded (read_eqs m)
 unfolding read_eqs
 eqs_bounded zero = list_bounded (kind.Word word.And) (eqn zero nothing) (eqn_bounded nothing nothing_after zero)
 eqs_bounded (suc m) = list_bounded (kind.Word word.And) (eqn (suc m) (read_eqs m)) (eqn_bounded (read_eqs m) (bounded_after _ (eqs_bounded m)) (suc m))
 
 -- ---- declarations
 
-type_bounded : Bounded type_of
+pub type_bounded : Bounded type_of
 unfolding type_of
 type_bounded n ts le = find_sized _ n ts le next λ w lw. ok (_, w.1) (omega arith)
 
-param_bounded : Bounded param
+pub param_bounded : Bounded param
 unfolding param
 param_bounded n ts le = name_bounded n ts le next λ x lx. maybe_bounded (kind.Sign sign.Colon) type_of (bounded_after type_of type_bounded) n x.1 lx next λ ty lty. ok (_, ty.1) lty
 
@@ -415,7 +432,7 @@ pub data Inside {A : Type 0} (n : ℕ) : Result A Fault → Type 0 where
   too_many : (left : ℕ) → 1 ≤ left → left ≤ n → Inside n (Err (deep left))
 
 infixl 10 ◌after◌
-◌after◌ : {A B : Type 0} {n : ℕ} {r : Result (A × List Token) Fault} {f : A × List Token → Result B Fault} →
+pub ◌after◌ : {A B : Type 0} {n : ℕ} {r : Result (A × List Token) Fault} {f : A × List Token → Result B Fault} →
     Sized false n r → ((x : A × List Token) → length x.1 ≤ n → Inside n (f x)) → Inside n (r >>= f)
 unfolding ◌>>=◌
 (ok y le) after k = k y (omega arith)

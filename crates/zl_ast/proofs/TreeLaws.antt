@@ -10,11 +10,12 @@ use Rattle.zl_ast.specs.Spots.{Sort, occurrence, equation, Spot, Mark, token_mar
 use Rattle.zl_ast.specs.Parsed.{Before, Grow, spots, places, same_sort, of_sort, with_id, spot_ids, token_ids, token_places, IsParsed}
 use Rattle.zl_ast.specs.TreeLaws.{OneTree, Deeper, PlacesGrow, NamesKnown, ReadingIsExact, NoTreeAtAnyDepth, SomePlacesGrow, FaultsAreInside}
 use Rattle.zl_ast.proofs.Sublists.{through}
+use Rattle.zl_ast.proofs.TextTokens.{tokens_grow, tokens_known}
 use Rattle.zl_ast.proofs.PassagesOfEquations.{decls_within}
 use Rattle.zl_ast.proofs.AgreeingDeclarations.{one_tree_at, program_sound, program_complete}
 use Rattle.zl_ast.proofs.Faults.{parse_fault, deep_fault}
 use Rattle.zl_ast.proofs.Lift.{lift}
-use Rattle.zl_ast.proofs.Shallower.{parse_at_any_depth}
+use Rattle.zl_ast.proofs.OneDeeperEquations.{parse_at_any_depth}
 
 pub one_tree : OneTree
 one_tree n m ts p q h k = one_tree_at (n + m) ts p.decls q.decls (lift n (n + m) ts p.decls (omega arith) h) (lift m (n + m) ts q.decls (omega arith) k)
@@ -82,10 +83,10 @@ places_kept p h =
     subst (λ ps. Sublist ps (token_places h.tokens)) a (subst (λ qs. Sublist (mark_places (map spot_mark (spots p))) qs) b (sublist_map (λ m. m.at) _ _ (marks_kept p h)))
 
 of_sort_grows : (s : Sort) (p : Program) (h : IsParsed p) → Grow (places (of_sort s (spots p)))
-of_sort_grows s p h = sublist_grows _ _ (through (sublist_map (λ x. x.at) _ _ (of_sort_sublist s (spots p))) (places_kept p h)) h.places_grow
+of_sort_grows s p h = sublist_grows _ _ (through (sublist_map (λ x. x.at) _ _ (of_sort_sublist s (spots p))) (places_kept p h)) (tokens_grow h.tokens h.end h.facts.in_order)
 
 pub places_grow : PlacesGrow
-places_grow p h = (sublist_grows _ _ (places_kept p h) h.places_grow, of_sort_grows occurrence p h, of_sort_grows equation p h)
+places_grow p h = (sublist_grows _ _ (places_kept p h) (tokens_grow h.tokens h.end h.facts.in_order), of_sort_grows occurrence p h, of_sort_grows equation p h)
 
 abbrev mark_ids : List Mark → List ℕ
 mark_ids [] = []
@@ -118,7 +119,7 @@ names_known p h =
     let a = spot_mark_ids (spots p) in
     let b = token_mark_ids h.tokens in
     let k : Sublist (spot_ids (spots p)) (token_ids h.tokens) = subst (λ xs. Sublist xs (token_ids h.tokens)) a (subst (λ ys. Sublist (mark_ids (map spot_mark (spots p))) ys) b s) in
-    sublist_all (λ id. id < length p.names) _ _ k h.names_known
+    sublist_all (λ id. id < length p.names) _ _ k (tokens_known (length p.names) h.tokens h.facts.kinds)
 
 pub some_places_grow : SomePlacesGrow
 some_places_grow = sublist_grows

@@ -8,9 +8,12 @@ pub mod Reading
 pub mod ReadingExpressions
 pub mod ReadingEquations
 pub mod ReadingDeclarations
+pub mod DeepTokens
+pub mod GoesOn
 pub mod Parsed
 pub mod TreeLaws
 pub mod Examples
+pub mod WorkedTrees
 pub mod Names
 pub mod NamesDefined
 pub mod NamesUsed
@@ -24,3 +27,14 @@ pub mod Kinds
 pub mod TypesRules
 pub mod Anchored
 pub mod Initialised
+pub mod Verdicts
+pub mod ReadNamesWorked
+pub mod DefinedNamesWorked
+pub mod ContextWorked
+pub mod EquationContextWorked
+pub mod NamesOrderWorked
+pub mod ExpressionTypesWorked
+pub mod EquationTypesWorked
+pub mod ExpressionLevelsWorked
+pub mod EquationLevelsWorked
+pub mod InOrder

@@ -1,7 +1,8 @@
 -- What is known of every tree that was made of tokens.
-use Rattle.std.specs.Prelude.{◌≡◌, Bool, true, false, if◌then◌else◌, ℕ, ◌<◌, ◌⊎◌, List, [], ◌∷◌, map, length, Option, Some, None}
+use Rattle.std.specs.Prelude.{◌≡◌, Bool, true, false, if◌then◌else◌, ℕ, ◌<◌, ◌⊎◌, List, [], ◌∷◌, map, Option, Some, None}
 use Rattle.std.specs.List.{AllByRecursion}
 use Rattle.zl_lexer.specs.declared.token.Token.{Token}
+use Rattle.zl_lexer.specs.Facts.{AreTokens}
 use Rattle.zl_value.specs.declared.position.Pos.{Pos}
 use Rattle.zl_ast.specs.declared.program.Program.{Program}
 use Rattle.zl_ast.specs.Declarations.{IsProgram, nesting_limit}
@@ -62,9 +63,10 @@ token_ids (t ∷ ts) = with_id (id_of t.kind) (token_ids ts)
 abbrev pub token_places : List Token → List Pos
 token_places ts = map (λ t. t.at) ts
 
--- The program is the tree of a list of tokens whose places grow, and whose name numbers are all in the program's list of names.
+-- The program is the tree of the tokens of a text: they stand in order before its end, their numbers are within their ranges,
+-- and their names are those in the program's list of names.
 pub record IsParsed (p : Program) : Type 0 where
   pub tokens : List Token
+  pub end : Pos
+  pub facts : AreTokens tokens p.names end
   pub is_program : IsProgram nesting_limit tokens p
-  pub places_grow : Grow (token_places tokens)
-  pub names_known : AllByRecursion (λ id. id < length p.names) (token_ids tokens)

@@ -288,14 +288,14 @@ module _ (e : Environment) where
   abbrev pub ups_equalities : List Up → List Equality
   ups_equalities ups = joined (map up_equalities ups)
 
-  -- a test is bool
-  abbrev pub test_equalities : Expr → List Equality
-  test_equalities x = fixed (place_of x) ty.Bool (place_of x) ∷ expr_equalities e x
+  -- a test is bool: its parenthesis asks that
+  abbrev pub test_equalities : Pos → Expr → List Equality
+  test_equalities at x = fixed at ty.Bool (place_of x) ∷ expr_equalities e x
 
   -- a condition: an event or a test
   abbrev pub cond_equalities : Cond → List Equality
   cond_equalities (Event ups) = ups_equalities ups
-  cond_equalities (Test at x) = test_equalities x
+  cond_equalities (Test at x) = test_equalities at x
 
   -- the `init` part of a `der`
   abbrev pub start_equalities : Option Expr → List Equality

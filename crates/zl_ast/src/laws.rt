@@ -1,5 +1,8 @@
 //! The laws of the grammar, each as what a function with an empty body ensures.
 ghost use Rattle.zl_ast.specs.Examples.{Examples};
+ghost use Rattle.zl_ast.specs.DeepTokens.{DeepTokens};
+ghost use Rattle.zl_ast.specs.GoesOn.{NoneGoesOn, NoneGoesOnWithin};
+ghost use Rattle.zl_ast.specs.InOrder.{EqualitiesRise, RequirementsRise};
 ghost use Rattle.zl_ast.specs.TreeLaws.{OneTree, Deeper, PlacesGrow, NamesKnown, ReadingIsExact, NoTreeAtAnyDepth, SomePlacesGrow, FaultsAreInside};
 
 /// Tokens have at most one tree.
@@ -37,9 +40,35 @@ pub fn faults_are_inside()
     ensures { FaultsAreInside }
 {}
 
+/// A token that opens a construct too many opens one, and with one construct more reading takes it: it stops behind it, or
+/// nowhere.
+pub fn deep_tokens()
+    ensures { DeepTokens }
+{}
+
+/// Where reading stops at a token that can't follow, the tokens up to it begin no program, whatever its nesting.
+pub fn none_goes_on()
+    ensures { NoneGoesOn }
+{}
+
+/// Where it stops at one that opens a construct too many, these tokens and one more begin no program within the limit.
+pub fn none_goes_on_within()
+    ensures { NoneGoesOnWithin }
+{}
+
 /// A list of places whose members stand, in this order, in a list that grows.
 pub fn some_places_grow()
     ensures { SomePlacesGrow }
+{}
+
+/// What is asked of types is asked in the order of the text.
+pub fn equalities_rise()
+    ensures { EqualitiesRise }
+{}
+
+/// What is asked of levels is asked in the order of the text.
+pub fn requirements_rise()
+    ensures { RequirementsRise }
 {}
 
 /// The worked examples: lists of tokens with their trees, and lists that have none.

@@ -10,9 +10,8 @@ mod name_set;
 mod operator;
 mod place;
 mod program;
+pub mod rules;
 mod scope;
-#[cfg(test)]
-mod tests;
 
 pub use constraint::{Asked, Equality, Requirement, Side};
 pub use eqn::{Arm, Body, Cond, Eqn, Move, ResetArm, State, Up};

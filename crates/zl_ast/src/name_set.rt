@@ -1,4 +1,4 @@
-ghost use Rattle.std.specs.Prelude.{◌≡◌, [], length, take, if◌then◌else◌, OnOk};
+ghost use Rattle.std.specs.Prelude.{◌≡◌, [], length, take, if◌then◌else◌, OnErr, OnOk};
 ghost use Rattle.zl_ast.specs.Names.{among, with_id};
 
 use indexmap::IndexSet;
@@ -43,19 +43,19 @@ impl NameSet {
         self.ids.contains(&id)
     }
 
-    /// Puts the number behind the others, unless it is one of them; fails for want of memory.
+    /// Puts the number behind the others, unless it is one of them. Where it fails, for want of memory, the set is as it was.
     pub fn insert(&mut self, id: u32) -> Result<(), AllocError>
-        ensures { OnOk result (self.new ≡ with_id self.old id) }
+        ensures inserted { OnOk result (self.new ≡ with_id self.old id) }
+        ensures kept { OnErr result (self.new ≡ self.old) }
     {
-        let Ok(_) = self.ids.insert(id) else {
-            return Err(AllocError);
-        };
+        self.ids.insert(id)?;
         Ok(())
     }
 
     /// Does so if it is wanted.
     pub fn insert_if(&mut self, wanted: bool, id: u32) -> Result<(), AllocError>
-        ensures { OnOk result (self.new ≡ (if wanted then with_id self.old id else self.old)) }
+        ensures inserted { OnOk result (self.new ≡ (if wanted then with_id self.old id else self.old)) }
+        ensures kept { OnErr result (self.new ≡ self.old) }
     {
         if wanted { self.insert(id) } else { Ok(()) }
     }

@@ -1,0 +1,5 @@
+use Rattle.zl_ast.proofs.GoesOn as laws
+use Rattle.zl_ast.proofs.laws.none_goes_on.Goals as goal
+
+pub returns : goal.returns
+returns c = laws.none_goes_on
