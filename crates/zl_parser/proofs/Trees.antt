@@ -1,22 +1,20 @@
 -- The tree of tokens, and what a stop says of tokens that have none.
-use Rattle.std.proofs.Common.{◌≡◌, ℕ, ◌<◌, List, [], ◌∷◌, length, Result, Ok, Err, arith, refl}
-use Rattle.std.specs.List.{AllByRecursion}
+use Rattle.std.proofs.Common.{◌≡◌, ℕ, ◌-◌, ◌≤◌, List, length, Result, Ok, Err, arith, refl, subst}
 use Rattle.zl_lexer.specs.declared.token.Token.{Token}
-use Rattle.zl_lexer.specs.declared.token.TokenKind.{TokenKind}
-use Rattle.zl_lexer.specs.declared.token.TokenKind.TheVariants as kind
-use Rattle.zl_lexer.specs.Facts.{InOrder, IsKind, AreTokens}
+use Rattle.zl_lexer.specs.Facts.{AreTokens}
 use Rattle.zl_value.specs.declared.position.Pos.{Pos}
 use Rattle.zl_ast.specs.declared.program.Decl.{Decl}
 use Rattle.zl_ast.specs.Declarations.{IsDecls, nesting_limit}
-use Rattle.zl_ast.specs.Parsed.{Before, Grow, with_id, token_ids, token_places, IsParsed}
-use Rattle.zl_ast.specs.Spots.{id_of}
+use Rattle.zl_ast.specs.Parsed.{IsParsed}
 use Rattle.zl_ast.specs.Reading.{Fault, parse, deep}
 use Rattle.zl_ast.specs.ReadingDeclarations.{read_program}
+use Rattle.zl_ast.proofs.GoesOn.{none_goes_on, none_goes_on_within}
+use Rattle.zl_ast.proofs.OneDeeperEquations.{deep_tokens}
 use Rattle.zl_ast.proofs.TreeLaws.{reading_is_exact, no_tree_at_any_depth, faults_are_inside}
 use Rattle.zl_parser.specs.declared.stop.Stop.{Stop}
 use Rattle.zl_parser.specs.declared.stop.Stop.TheVariants as stop
 use Rattle.zl_parser.specs.Giving.{Fails}
-use Rattle.zl_parser.specs.ParseAnswers.{IsAnswered, HasNoTree, StandsAt, IsWithin, answer_of}
+use Rattle.zl_parser.specs.ParseAnswers.{IsAnswered, HasNoTree, StandsAt, ReadingStops, NoneGoesOn, IsWithin, answer_of}
 
 same_tree : (read : Result (List Decl) Fault) (ds es : List Decl) → read ≡ Ok ds → read ≡ Ok es → ds ≡ es
 same_tree read ds es p q = cc
@@ -51,31 +49,23 @@ module _ (ts : List Token) where
   stands (stop.Parse left) end f = (omega arith, refl)
   stands (stop.Deep left) end f = let some = (faults_are_inside nesting_limit left ts).1 f in (omega arith, refl)
 
+  back : (left : ℕ) → left ≤ length ts → left ≡ length ts - (length ts - left)
+  back left le = omega arith
+
+  pub stops : (e : Stop) (end : Pos) → Fails e (read_program nesting_limit ts) → ReadingStops ts (answer_of ts end e)
+  stops stop.Memory end f = tt
+  stops (stop.Parse left) end f =
+      subst (λ l. read_program nesting_limit ts ≡ Err (parse l)) (back left ((faults_are_inside nesting_limit left ts).0 f)) f
+  stops (stop.Deep left) end f =
+      let taken = deep_tokens nesting_limit left ts f in
+      (subst (λ l. read_program nesting_limit ts ≡ Err (deep l)) (back left ((faults_are_inside nesting_limit left ts).1 f).1) f, taken.0, taken.1)
+
+  pub ends : (e : Stop) (end : Pos) → Fails e (read_program nesting_limit ts) → NoneGoesOn ts (answer_of ts end e)
+  ends stop.Memory end f = tt
+  ends (stop.Parse left) end f = λ lt. none_goes_on nesting_limit left ts f (let le = (faults_are_inside nesting_limit left ts).0 f in omega arith)
+  ends (stop.Deep left) end f = λ lt. none_goes_on_within nesting_limit left ts f (let le = ((faults_are_inside nesting_limit left ts).1 f).1 in omega arith)
+
 -- ---- the tokens of a text
 
-all_places : (p : Pos) (ts : List Token) → AllByRecursion (λ t. Before p t.at) ts → AllByRecursion (Before p) (token_places ts)
-all_places p [] h = tt
-all_places p (t ∷ ts) h = (h.0, all_places p ts h.1)
-
-places_grow : (ts : List Token) (end : Pos) → InOrder ts end → Grow (token_places ts)
-places_grow [] end h = tt
-places_grow (t ∷ ts) end h = (all_places t.at ts h.1, places_grow ts end h.2)
-
-known_at : (count : ℕ) (k : TokenKind) (ids : List ℕ) → IsKind count k → AllByRecursion (λ id. id < count) ids → AllByRecursion (λ id. id < count) (with_id (id_of k) ids)
-known_at count (kind.Name id) ids h all = (h, all)
-known_at count (kind.Int i) ids h all = all
-known_at count (kind.Float f) ids h all = all
-known_at count (kind.Word w) ids h all = all
-known_at count (kind.Sign s) ids h all = all
-
-names_known : (count : ℕ) (ts : List Token) → AllByRecursion (λ t. IsKind count t.kind) ts → AllByRecursion (λ id. id < count) (token_ids ts)
-names_known count [] h = tt
-names_known count (t ∷ ts) h = known_at count t.kind (token_ids ts) h.0 (names_known count ts h.1)
-
 pub is_parsed : (ts : List Token) (names : List (List ℕ)) (end : Pos) (ds : List Decl) → read_program nesting_limit ts ≡ Ok ds → AreTokens ts names end → IsParsed (record { decls = ds; names = names })
-is_parsed ts names end ds e h = record {
-  tokens = ts;
-  is_program = is_found ts ds e;
-  places_grow = places_grow ts end h.in_order;
-  names_known = names_known (length names) ts h.kinds;
-}
+is_parsed ts names end ds e h = record { tokens = ts; end = end; facts = h; is_program = is_found ts ds e }

@@ -11,8 +11,6 @@ mod moves;
 mod names;
 mod operator;
 mod stop;
-#[cfg(test)]
-mod tests;
 mod token;
 mod tree;
 mod variable;

@@ -5,7 +5,7 @@ ghost use Rattle.zl_ast.specs.Declarations.{IsProgram, nesting_limit};
 ghost use Rattle.zl_ast.specs.Parsed.{IsParsed};
 ghost use Rattle.zl_ast.specs.ReadingDeclarations.{read_program};
 ghost use Rattle.zl_parser.specs.Giving.{Gives};
-ghost use Rattle.zl_parser.specs.ParseAnswers.{IsAnswered, HasNoTree, StandsAt, IsWithin, answer_of, place_of};
+ghost use Rattle.zl_parser.specs.ParseAnswers.{IsAnswered, HasNoTree, StandsAt, ReadingStops, NoneGoesOn, IsWithin, answer_of, place_of};
 
 use crate::ParseAnswer;
 use crate::decl::decls;
@@ -30,6 +30,8 @@ pub fn parse(alloc: Global, lexed: Lexed) -> Result<Program, ParseAnswer>
     ensures only { (p : TheProgram) → IsProgram nesting_limit lexed.tokens p → IsAnswered result p.decls }
     ensures refused { IfErr result (HasNoTree lexed.tokens) }
     ensures place { IfErr result (StandsAt lexed.tokens lexed.end) }
+    ensures stops { IfErr result (ReadingStops lexed.tokens) }
+    ensures ends { IfErr result (NoneGoesOn lexed.tokens) }
 {
     let Lexed { tokens, names, end } = lexed;
     match program(alloc, tokens.as_slice()) {

@@ -2,8 +2,8 @@ use Rattle.std.proofs.Common.{length, Err, sym, ap, subst, ◌∙◌}
 use Rattle.zl_ast.specs.Declarations.{nesting_limit}
 use Rattle.zl_ast.specs.ReadingDeclarations.{read_program}
 use Rattle.zl_parser.specs.Giving.{Fails}
-use Rattle.zl_parser.specs.ParseAnswers.{IsAnswered, HasNoTree, StandsAt, IsWithin, answer_of}
-use Rattle.zl_parser.proofs.Trees.{is_found, is_only, is_within, not_answered, has_no_tree, stands, is_parsed}
+use Rattle.zl_parser.specs.ParseAnswers.{IsAnswered, HasNoTree, StandsAt, ReadingStops, NoneGoesOn, IsWithin, answer_of}
+use Rattle.zl_parser.proofs.Trees.{is_found, is_only, is_within, not_answered, has_no_tree, stands, stops, ends, is_parsed}
 use Rattle.zl_parser.proofs.tree.parse.Goals as goal
 
 pub returns-in-Ok-clause-found : goal.returns-in-Ok-clause-found
@@ -38,3 +38,13 @@ pub returns-clause-place : goal.returns-clause-place
 returns-clause-place c =
     subst (StandsAt c.args.lexed.tokens c.args.lexed.end) (sym (c.answer.ensures ∙ ap (λ ts. answer_of ts c.args.lexed.end c.in-Err.stop) c.as_slice-in-Err.ensures))
     (stands c.args.lexed.tokens c.in-Err.stop c.args.lexed.end (subst (λ ts. Fails c.in-Err.stop (read_program nesting_limit ts)) c.as_slice.ensures c.in-Err.ensures))
+
+pub returns-clause-stops : goal.returns-clause-stops
+returns-clause-stops c =
+    subst (ReadingStops c.args.lexed.tokens) (sym (c.answer.ensures ∙ ap (λ ts. answer_of ts c.args.lexed.end c.in-Err.stop) c.as_slice-in-Err.ensures))
+    (stops c.args.lexed.tokens c.in-Err.stop c.args.lexed.end (subst (λ ts. Fails c.in-Err.stop (read_program nesting_limit ts)) c.as_slice.ensures c.in-Err.ensures))
+
+pub returns-clause-ends : goal.returns-clause-ends
+returns-clause-ends c =
+    subst (NoneGoesOn c.args.lexed.tokens) (sym (c.answer.ensures ∙ ap (λ ts. answer_of ts c.args.lexed.end c.in-Err.stop) c.as_slice-in-Err.ensures))
+    (ends c.args.lexed.tokens c.in-Err.stop c.args.lexed.end (subst (λ ts. Fails c.in-Err.stop (read_program nesting_limit ts)) c.as_slice.ensures c.in-Err.ensures))
