@@ -45,9 +45,7 @@ impl Followers {
         }
         let mut places = Vec::new(alloc);
         places.push(follower)?;
-        let Ok(_) = self.table.insert((leader.line, leader.column), places) else {
-            return Err(AllocError);
-        };
+        self.table.insert((leader.line, leader.column), places)?;
         Ok(())
     }
 }

@@ -67,9 +67,7 @@ impl Places {
     fn insert(&mut self, var: &VarInfo) -> Result<(), AllocError>
         ensures { OnOk result (place_in self.new ≡ spec.with_place (place_in self.old) var.now) }
     {
-        let Ok(_) = self.of_names.insert(var.name, var.at) else {
-            return Err(AllocError);
-        };
+        self.of_names.insert(var.name, var.at)?;
         Ok(())
     }
 

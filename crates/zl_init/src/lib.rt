@@ -11,9 +11,5 @@ mod marks;
 mod name_set;
 mod requirements;
 mod solve;
-#[cfg(test)]
-mod solve_tests;
-#[cfg(test)]
-mod tests;
 
 pub use check::check_init;

@@ -88,9 +88,7 @@ impl Marks {
         if let Some(known) = self.at(place) {
             return Ok(known == mark);
         }
-        let Ok(_) = self.marks.insert((place.line, place.column), mark) else {
-            return Err(AllocError);
-        };
+        self.marks.insert((place.line, place.column), mark)?;
         Ok(true)
     }
 

@@ -79,9 +79,7 @@ impl Known<'_> {
         ensures names { self.new.names.now ≡ self.old.names.now }
     {
         self.parameters = NameSet::new(alloc);
-        let Ok(_) = self.signatures.insert(id, signature) else {
-            return Err(AllocError);
-        };
+        self.signatures.insert(id, signature)?;
         Ok(())
     }
 

@@ -8,8 +8,6 @@ mod known;
 mod main_rule;
 mod outline;
 mod repeats;
-#[cfg(test)]
-mod tests;
 mod used;
 mod used_eqn;
 mod variables;

@@ -63,9 +63,7 @@ impl Classes {
             line: place.line,
             column: place.column,
         };
-        let Ok((node, is_new)) = self.keys.insert_full(key) else {
-            return Err(AllocError);
-        };
+        let (node, is_new) = self.keys.insert_full(key)?;
         if is_new {
             self.links.push(node)?;
             self.known.push(None)?;

@@ -116,9 +116,7 @@ fn places_of(alloc: Global, vars: &[VarInfo]) -> Result<IndexMap<u32, Pos>, Allo
 {
     let mut places = IndexMap::new(alloc);
     for var in vars {
-        let Ok(_) = places.insert(var.name, var.at) else {
-            return Err(AllocError);
-        };
+        places.insert(var.name, var.at)?;
     }
     Ok(places)
 }
@@ -137,9 +135,7 @@ impl Environment<'_> {
         ensures { OnOk result (environment_of self.new ≡ with_declared (environment_of self.old) decl.now) }
     {
         let signature = Signature::of(alloc, decl)?;
-        let Ok(_) = self.declared.insert(decl.name.id, signature) else {
-            return Err(AllocError);
-        };
+        self.declared.insert(decl.name.id, signature)?;
         Ok(())
     }
 

@@ -134,11 +134,15 @@ fn push_ups(list: &mut EqualityList, env: &Environment, ups: &[Up]) -> Result<()
     Ok(())
 }
 
-fn push_test(list: &mut EqualityList, env: &Environment, test: &Expr) -> Result<(), AllocError>
-    ensures { OnOk result (list.new ≡ list.old ++ test_equalities (environment_of env.now) test.now) }
+fn push_test(
+    list: &mut EqualityList,
+    env: &Environment,
+    at: Pos,
+    test: &Expr,
+) -> Result<(), AllocError>
+    ensures { OnOk result (list.new ≡ list.old ++ test_equalities (environment_of env.now) at test.now) }
 {
-    let at = place_of(test);
-    list.fix(at, Ty::Bool, at)?;
+    list.fix(at, Ty::Bool, place_of(test))?;
     push_expr(list, env, test)
 }
 
@@ -147,7 +151,7 @@ fn push_cond(list: &mut EqualityList, env: &Environment, cond: &Cond) -> Result<
 {
     match cond {
         Cond::Event(ups) => push_ups(list, env, ups.as_slice()),
-        Cond::Test { arg, .. } => push_test(list, env, arg),
+        Cond::Test { at, arg } => push_test(list, env, *at, arg),
     }
 }
 

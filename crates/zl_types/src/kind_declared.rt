@@ -40,9 +40,7 @@ impl Declared {
     pub(crate) fn declare(&mut self, decl: &Decl) -> Result<(), AllocError>
         ensures { OnOk result (declared_of self.new ≡ declared_with (declared_of self.old) decl.now) }
     {
-        let Ok(_) = self.kinds.insert(decl.name.id, decl.kind) else {
-            return Err(AllocError);
-        };
+        self.kinds.insert(decl.name.id, decl.kind)?;
         Ok(())
     }
 }

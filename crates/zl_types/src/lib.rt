@@ -15,14 +15,6 @@ mod kind_declared;
 mod kind_eqn;
 mod kind_expr;
 mod kind_first;
-#[cfg(test)]
-mod kind_tests;
 mod solve;
-#[cfg(test)]
-mod solve_tests;
-#[cfg(test)]
-mod test_trees;
-#[cfg(test)]
-mod tests;
 
 pub use check::check_types;

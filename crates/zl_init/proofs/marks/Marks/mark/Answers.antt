@@ -5,4 +5,4 @@ use Rattle.zl_init.proofs.MarksLemmas.{inserting}
 use Rattle.zl_init.proofs.marks.Marks.mark.Goals as goal
 
 pub returns-clause-marked : goal.returns-clause-marked
-returns-clause-marked c = c.in-Ok.ensures.entries ∙ ap (λ (es : Known). insert_entry is_key es (key c.args.place) c.args.mark) c.self.view_is ∙ inserting c.args.self.now c.args.place c.args.mark (sym c.at.ensures ∙ c.in_default.is)
+returns-clause-marked c = c.in_ok-insert.ensures.entries ∙ ap (λ (es : Known). insert_entry is_key es (key c.args.place) c.args.mark) c.self.view_is ∙ inserting c.args.self.now c.args.place c.args.mark (sym c.at.ensures ∙ c.in_default.is)
