@@ -24,7 +24,7 @@ use Rattle.zl_meaning.specs.declared.place.Definer.TheVariants.{Input, Plain, De
 use Rattle.zl_meaning.specs.declared.place.DerArm.{DerArm}
 use Rattle.zl_meaning.specs.declared.place.PlaceInfo.{PlaceInfo}
 use Rattle.zl_meaning.specs.declared.occurrence.Form.{Form}
-use Rattle.zl_meaning.specs.declared.occurrence.Form.TheVariants.{Lit, Read, Last, Op as Apply, If, Arrow, Pre, Result, Up, Fired}
+use Rattle.zl_meaning.specs.declared.occurrence.Form.TheVariants.{Lit, Read, Last, Op as Apply, If, Arrow, Pre, Result, Up, Fired, Step}
 use Rattle.zl_meaning.specs.declared.occurrence.Occ.{Occ}
 
 module _ (P Q : Entries) (f : FlatForm) (m n : Moment) (s t : State) (alike : AreAlike Q m n) (same : (a : Node) → P a → s a ≡ t a) where
@@ -243,6 +243,7 @@ module _ (P Q : Entries) (f : FlatForm) (m n : Moment) (s t : State) (alike : Ar
   answer_same b (Result x) r = let u = same (AtValue x) r in cc
   answer_same b (Up site) r = let u = alike.mode in let v = alike.fired in let w = fresh_same b r in cc
   answer_same b (Fired ks) r = let u = alike.mode in let v = fired_same n.mode ks r in cc
+  answer_same b Step r = let u = alike.mode in cc
 
   value_same : (occ : Option Occ) → ReadsValue f P Q occ → value_of f m s occ ≡ value_of f n t occ
   value_same None r = refl

@@ -1,4 +1,4 @@
--- In a flow of a form with ranks it is decided which slopes are fine.
+-- In a flow of a form with ranks it is decided which slopes are fine: exactly one list says it.
 use Rattle.std.specs.Prelude.{◌≡◌, ℕ, ◌<◌, Bool, true, false, ◌&&◌, if◌then◌else◌, List, [], ◌∷◌, ◌++◌, length, get_or, slice_get, Option, Some, None, ⊤}
 use Rattle.std.specs.List.{AllByRecursion, list_all}
 use mathlib.Core.Path.{fun_ext}
@@ -6,18 +6,19 @@ use Rattle.std.proofs.Common.{refl, sym, ap, ◌∙◌, arith}
 use Rattle.zl_value.specs.Lists.{listed, when}
 use Rattle.zl_value.specs.Times.{holds, fails}
 use Rattle.zl_value.specs.FixedPoints.{IsRanked}
-use Rattle.zl_value.proofs.Fixed.{one_value}
+use Rattle.zl_value.proofs.Fixed.{one_value, has_one_solution}
 use Rattle.zl_meaning.specs.FlatForm.{FlatForm}
 use Rattle.zl_meaning.specs.State.{Table, AtControl, AtPlace, AtValue, State, state_in, is_active}
+use Rattle.zl_meaning.specs.Grades.{keeps_lines}
 use Rattle.zl_meaning.specs.Slopes.{plain_by, plain_of, sources, slope_of, slope_fits, is_fine, fine_turn}
 use Rattle.zl_meaning.specs.Reading.{ReadsDefiner, ReadsPlace, ReadsForm, ReadsValue, HasNodeRanks}
 use Rattle.zl_meaning.specs.declared.place.Definer.{Definer}
 use Rattle.zl_meaning.specs.declared.place.Definer.TheVariants.{Input, Plain, Der, Start}
 use Rattle.zl_meaning.specs.declared.place.PlaceInfo.{PlaceInfo}
 use Rattle.zl_meaning.specs.declared.occurrence.Form.{Form}
-use Rattle.zl_meaning.specs.declared.occurrence.Form.TheVariants.{Lit, Read, Last, Op as Apply, If, Arrow, Pre, Result, Up, Fired}
+use Rattle.zl_meaning.specs.declared.occurrence.Form.TheVariants.{Lit, Read, Last, Op as Apply, If, Arrow, Pre, Result, Up, Fired, Step}
 use Rattle.zl_meaning.specs.declared.occurrence.Occ.{Occ}
-use Rattle.zl_meaning.proofs.OneTable.{made_at}
+use Rattle.zl_meaning.proofs.OneTable.{made_at, held}
 
 module _ (f : FlatForm) (r : HasNodeRanks f) (s : State) where
   -- all of these occurrences have a value of a rank below `n`
@@ -56,13 +57,18 @@ module _ (f : FlatForm) (r : HasNodeRanks f) (s : State) where
   sources_low n b (Lit v) read = tt
   sources_low n b (Read p) read = place_low n (r.rank (AtPlace p)) p (slice_get f.places p) read (r.lower (AtPlace p))
   sources_low n b (Last p) read = tt
-  sources_low n b (Apply op ks) read = read
+  sources_low n b (Apply op ks) read = go (keeps_lines op)
+    where
+      go : (t : Bool) → AllByRecursion (λ j. r.rank (AtValue j) < n) (if t then ks else [])
+      go true = read
+      go false = tt
   sources_low n b (If c x y) read = append_low n (when (holds (s (AtValue c))) x) (when (fails (s (AtValue c))) y) (when_low n (holds (s (AtValue c))) x read.1) (when_low n (fails (s (AtValue c))) y read.2)
   sources_low n b (Arrow x y) read = (read.2, tt)
   sources_low n b (Pre x) read = tt
   sources_low n b (Result x) read = (read, tt)
   sources_low n b (Up site) read = tt
   sources_low n b (Fired ks) read = tt
+  sources_low n b Step read = tt
 
 -- which slopes are fine, as a function of the number
 module _ (f : FlatForm) (r : HasNodeRanks f) (t u : Table) where
@@ -112,3 +118,15 @@ module _ (f : FlatForm) (r : HasNodeRanks f) (t u : Table) where
   one_fine x y p q =
       let same = fun_ext (one_value rank_at step step_ranked (λ j. get_or x j true) (λ j. get_or y j true) (solved_at x p) (solved_at y q)) in
       p ∙ turn_by x ∙ ap (λ g. listed (length f.occs) 0 (step g)) same ∙ sym (turn_by y) ∙ sym q
+
+  -- and there is such a list
+  pub some_fine : (fine : List Bool) × (fine ≡ fine_turn f t u fine)
+  unfolding step by_form
+  some_fine =
+      let one = has_one_solution rank_at step step_ranked (λ k. true) in
+      let fine = listed (length f.occs) 0 one.solution in
+      let kept = fun_ext (held f.occs true one.solution (λ k occ. by_form one.solution k occ) (λ k. refl) one.solves) in (
+        fine,
+        ap (λ g. listed (length f.occs) 0 g) (fun_ext one.solves)
+            ∙ ap (λ g. listed (length f.occs) 0 (step g)) (sym kept) ∙ sym (turn_by fine),
+      )

@@ -38,7 +38,7 @@ made_at xs d of none k =
     from_zero k = omega arith
 
 -- the same of entries that are what is made of the elements
-held : {A X : Type 0} (xs : List A) (d : X) (make : ℕ → X) (of : ℕ → Option A → X) → ((k : ℕ) → of k None ≡ d) → ((k : ℕ) → make k ≡ of k (slice_get xs k)) → (k : ℕ) → get_or (listed (length xs) 0 make) k d ≡ make k
+pub held : {A X : Type 0} (xs : List A) (d : X) (make : ℕ → X) (of : ℕ → Option A → X) → ((k : ℕ) → of k None ≡ d) → ((k : ℕ) → make k ≡ of k (slice_get xs k)) → (k : ℕ) → get_or (listed (length xs) 0 make) k d ≡ make k
 held xs d make of none is k =
     listed_at xs 0 make d of none (λ i. ap make (from_zero i) ∙ is i ∙ ap (λ n. of n (slice_get xs i)) (sym (from_zero i))) k
     ∙ ap (λ n. of n (slice_get xs k)) (from_zero k) ∙ sym (is k)

@@ -5,8 +5,12 @@ use Rattle.std.proofs.Common.{lit<, refl, sym, ap, ap₂, ◌∙◌, ⊎_elim, i
 use Rattle.zl_value.specs.Fraction.{Fraction, IsReduced, IsFrac, add, sub, mul, fits}
 use Rattle.zl_value.specs.Order.{below}
 use Rattle.zl_value.specs.Lines.{instant_line, ending_line}
+use Rattle.zl_value.specs.Instants.{Step, Left, one_if}
 use Rattle.zl_value.specs.Lists.{when}
 use Rattle.zl_value.specs.Loop.{Ends, Flows, step_or_bound}
+use Rattle.zl_value.specs.System.{Course, System, next, move_fault}
+use Rattle.zl_value.specs.Runs.{StepAfter, FlowAfter, MoveAfter, LeftAfter, ByMove}
+use Rattle.zl_value.specs.Traces.{line_of}
 use Rattle.zl_value.specs.Script.{IsTime}
 use Rattle.zl_value.specs.Stops.{line_for, is_stop, is_clear}
 use Rattle.zl_value.specs.Times.{nought, unit, is_same}
@@ -24,13 +28,15 @@ use Rattle.zl_value.proofs.FractionOrder.{below-self, below-zero, below_cases, s
 use Rattle.zl_value.proofs.LinearLaws.{line_slope}
 use Rattle.zl_meaning.specs.FlatForm.{FlatForm}
 use Rattle.zl_meaning.specs.State.{Active, Table, Node, AtControl, AtReset, AtLater, AtEntry, AtRunning, AtStrong, AtWeak, AtPlace, AtUsed, AtValue}
-use Rattle.zl_meaning.specs.History.{Step, Left, Instant, History, one_if}
+use Rattle.zl_meaning.specs.History.{Instant, History}
 use Rattle.zl_meaning.specs.Equation.{equation, turn}
-use Rattle.zl_meaning.specs.Run.{next, StepAfter, FlowAfter, move_fault, MoveAfter, LeftAfter, IsRun}
-use Rattle.zl_meaning.specs.Trace.{line_of, trace}
+use Rattle.zl_meaning.specs.Flow.{FlowTable}
+use Rattle.zl_meaning.specs.System.{system_of}
+use Rattle.zl_meaning.specs.Run.{IsRun}
+use Rattle.zl_meaning.specs.Trace.{outputs, trace}
 use Rattle.zl_meaning.specs.Reading.{ReadsControl, ReadsReset, ReadsLater, ReadsPlace, ReadsUsed, ReadsValue, Reads, HasNodeRanks}
 use Rattle.zl_meaning.specs.ThinForm.{ThinText, thin_form, thin_grades, horizon_script, increment, arrival, thin_run_end, thin_line, thin_run_lines, ThinRuns}
-use Rattle.zl_meaning.proofs.Ranks.{numbered}
+use Rattle.zl_meaning.proofs.NodeRanks.{numbered}
 use Rattle.zl_meaning.proofs.OneRun.{one_run}
 
 -- what stands where the variable has this value, at the first step and in the flow
@@ -51,6 +57,13 @@ table_at thin fresh value = record {
 abbrev flow_table : Thin → Fraction → Table
 flow_table thin s = table_at thin false (add thin.start (mul s thin.slope))
 
+-- the flow: all its slopes are fine
+abbrev flow_of : Thin → Course FlowTable
+flow_of thin s = record { table = flow_table thin s; fine = true ∷ true ∷ true ∷ [] }
+
+abbrev thin_system : Thin → ThinText → System Table FlowTable
+thin_system thin text = system_of (thin_form thin text) thin_grades
+
 -- the first step, and the left end of the flow to the horizon
 abbrev first_step : Thin → Instant
 first_step thin = record { kind = Step; time = nought; inputs = []; fired = []; table = table_at thin true thin.start }
@@ -58,15 +71,15 @@ first_step thin = record { kind = Step; time = nought; inputs = []; fired = []; 
 abbrev left_end : Thin → Fraction → Instant
 left_end thin horizon = record { kind = Left; time = horizon; inputs = []; fired = []; table = flow_table thin horizon }
 
-step_is : (thin : Thin) (text : ThinText) (horizon : Fraction) (steps : ℕ) → StepAfter (thin_form thin text) (horizon_script horizon steps) [] (first_step thin)
+step_is : (thin : Thin) (text : ThinText) (horizon : Fraction) (steps : ℕ) → StepAfter (thin_system thin text) (horizon_script horizon steps) [] (first_step thin)
 unfolding equation turn
-step_is thin text horizon steps = record { due = refl; kind = refl; time = refl; inputs = refl; solves = record { fired = refl; table = refl } }
+step_is thin text horizon steps = record { due = refl; kind = refl; time = refl; inputs = refl; fired = refl; solves = refl }
 
 -- what follows the first step, and what follows the left end
-after_step : (thin : Thin) (text : ThinText) (horizon : Fraction) (steps : ℕ) (b : Bool) → is_same nought horizon ≡ b → next (thin_form thin text) (horizon_script horizon steps) (first_step thin ∷ []) ≡ (if b then Ends Horizon else Flows)
+after_step : (thin : Thin) (text : ThinText) (horizon : Fraction) (steps : ℕ) (b : Bool) → is_same nought horizon ≡ b → next (thin_system thin text) (horizon_script horizon steps) (first_step thin ∷ []) ≡ (if b then Ends Horizon else Flows)
 after_step thin text horizon steps b e = ap (λ x. if x then Ends Horizon else Flows) e
 
-after_left : (thin : Thin) (text : ThinText) (horizon : Fraction) (steps : ℕ) → is_same nought horizon ≡ false → next (thin_form thin text) (horizon_script horizon steps) (left_end thin horizon ∷ first_step thin ∷ []) ≡ Ends Horizon
+after_left : (thin : Thin) (text : ThinText) (horizon : Fraction) (steps : ℕ) → is_same nought horizon ≡ false → next (thin_system thin text) (horizon_script horizon steps) (left_end thin horizon ∷ first_step thin ∷ []) ≡ Ends Horizon
 after_left thin text horizon steps e =
     ap (λ x. if is_some (line_for (horizon_script horizon steps) horizon (0 + (one_if x + 0))) then step_or_bound (horizon_script horizon steps) 1 else (if is_same horizon horizon then Ends Horizon else Flows)) e
     ∙ ap (λ x. if x then Ends Horizon else Flows) (same_parts-self horizon)
@@ -85,13 +98,13 @@ still_is x r = ap (λ y. fits y) (sub-self x r.above) ∙ nought_fits
 all_three : {a b c : Bool} → a ≡ true → b ≡ true → c ≡ true → true ∷ true ∷ true ∷ [] ≡ (a && true) ∷ (b && true) ∷ (c && true) ∷ []
 all_three p q r = rw (p, q, r) refl
 
-flow_is : (thin : Thin) (text : ThinText) (horizon : Fraction) (steps : ℕ) → IsFrac thin.start → IsFrac thin.slope → is_same nought horizon ≡ false → FlowAfter (thin_form thin text) (horizon_script horizon steps) [] (first_step thin) (flow_table thin)
+flow_is : (thin : Thin) (text : ThinText) (horizon : Fraction) (steps : ℕ) → IsFrac thin.start → IsFrac thin.slope → is_same nought horizon ≡ false → FlowAfter (thin_system thin text) (horizon_script horizon steps) [] (first_step thin) (flow_of thin)
 unfolding equation turn
 flow_is thin text horizon steps a k e = record {
   due = after_step thin text horizon steps false e;
-  flow = record { table = λ s r l. refl };
-  fine = true ∷ true ∷ true ∷ [];
-  solved = all_three (slope_is thin a k) (still_is thin.slope k.reduced) (still_is thin.start a.reduced);
+  solves = λ s r l.
+      ap (λ l. let x : FlowTable = record { table = flow_table thin s; fine = l } in x)
+      (all_three (slope_is thin a k) (still_is thin.slope k.reduced) (still_is thin.start a.reduced));
 }
 
 -- the flow lasts up to the horizon
@@ -113,14 +126,15 @@ clear_up_to horizon steps to e p =
 first_two : {a b : Bool} (x y : Option Fault) → a ≡ true → b ≡ true → (if a then (if b then None else y) else x) ≡ None
 first_two x y p q = rw (p, q) refl
 
-move_is : (thin : Thin) (text : ThinText) (horizon : Fraction) (steps : ℕ) → IsFrac thin.start → IsFrac thin.slope → IsTime horizon → is_same nought horizon ≡ false → MoveAfter (thin_form thin text) thin_grades (horizon_script horizon steps) [] (first_step thin) (flow_table thin) horizon
+move_is : (thin : Thin) (text : ThinText) (horizon : Fraction) (steps : ℕ) → IsFrac thin.start → IsFrac thin.slope → IsTime horizon → is_same nought horizon ≡ false → MoveAfter (thin_system thin text) (horizon_script horizon steps) [] (first_step thin) (flow_of thin) horizon
 unfolding flow_is
 move_is thin text horizon steps a k t e =
     let positive = later_than_zero horizon t e in
     let to = zero-add horizon t.number.reduced in
     record {
       flow = flow_is thin text horizon steps a k e;
-      slopes = first_two (Some (record { kind = Range; at = text.result })) (Some (record { kind = Range; at = text.slope })) (slope_is thin a k) (still_is thin.slope k.reduced);
+      right = first_two (Some (record { kind = Range; at = text.result })) (Some (record { kind = Range; at = text.slope })) (slope_is thin a k) (still_is thin.slope k.reduced);
+      whole = refl;
       lasts = record {
         reduced = t.number.reduced;
         positive = positive;
@@ -131,7 +145,7 @@ move_is thin text horizon steps a k t e =
     }
 
 -- what moves, and whether it stays in the width
-moves_or : (thin : Thin) (text : ThinText) (horizon : Fraction) (a b : Bool) → fits horizon ≡ true → fits (add nought horizon) ≡ true → fits (mul horizon thin.slope) ≡ a → fits (add thin.start (mul horizon thin.slope)) ≡ b → move_fault (thin_form thin text) (first_step thin) (flow_table thin nought) horizon ≡ (if a && b then None else Some (record { kind = Range; at = thin.at }))
+moves_or : (thin : Thin) (text : ThinText) (horizon : Fraction) (a b : Bool) → fits horizon ≡ true → fits (add nought horizon) ≡ true → fits (mul horizon thin.slope) ≡ a → fits (add thin.start (mul horizon thin.slope)) ≡ b → move_fault (thin_system thin text) (first_step thin) (flow_of thin) horizon ≡ (if a && b then None else Some (record { kind = Range; at = thin.at }))
 moves_or thin text horizon a b p q r s = tests (fits horizon) (fits (add nought horizon)) (fits (mul horizon thin.slope)) (fits (add thin.start (mul horizon thin.slope))) a b (Some (record { kind = Range; at = nowhere })) (Some (record { kind = Range; at = thin.at })) p q r s
   where
     tests : (w x y z a b : Bool) (early there : Option Fault) → w ≡ true → x ≡ true → y ≡ a → z ≡ b → (if w then (if x then (if y then (if z then None else there) else there) else early) else early) ≡ (if a && b then None else there)
@@ -146,10 +160,10 @@ Traced f names script ending lines = (h : History) × IsRun f thin_grades script
 abbrev fault_end : Thin → Ending
 fault_end thin = EndsInFault (record { kind = Range; at = thin.at }) nought FlowMark
 
-first_line : (thin : Thin) (text : ThinText) (names : List (List ℕ)) → get_or names text.name [] ≡ thin.name → line_of (thin_form thin text) names [] (first_step thin) ≡ thin_line thin nought (StepMark 0) thin.start
+first_line : (thin : Thin) (text : ThinText) (names : List (List ℕ)) → get_or names text.name [] ≡ thin.name → line_of (outputs (thin_form thin text) names) [] (first_step thin) ≡ thin_line thin nought (StepMark 0) thin.start
 first_line thin text names e = ap (λ n. instant_line nought (StepMark 0) (record { name = n; value = F thin.start } ∷ [])) e
 
-left_line : (thin : Thin) (text : ThinText) (names : List (List ℕ)) (horizon : Fraction) → get_or names text.name [] ≡ thin.name → line_of (thin_form thin text) names (first_step thin ∷ []) (left_end thin horizon) ≡ thin_line thin horizon LeftMark (arrival thin horizon)
+left_line : (thin : Thin) (text : ThinText) (names : List (List ℕ)) (horizon : Fraction) → get_or names text.name [] ≡ thin.name → line_of (outputs (thin_form thin text) names) (first_step thin ∷ []) (left_end thin horizon) ≡ thin_line thin horizon LeftMark (arrival thin horizon)
 left_line thin text names horizon e =
     ap (λ n. instant_line horizon LeftMark (record { name = n; value = F (add thin.start (mul horizon thin.slope)) } ∷ [])) e
     ∙ ap (λ x. thin_line thin horizon LeftMark (add thin.start x)) (mul_comm horizon thin.slope)
@@ -166,43 +180,40 @@ at_zero : (thin : Thin) (text : ThinText) (names : List (List ℕ)) (horizon : F
 at_zero thin text names horizon steps named e = (
   first_step thin ∷ [],
   record { instants = step_is thin text horizon steps; ends = inl (after_step thin text horizon steps true e) },
-  one_and (line_of (thin_form thin text) names [] (first_step thin)) (thin_line thin nought (StepMark 0) thin.start) (ending_line Horizon) (first_line thin text names named),
+  one_and (line_of (outputs (thin_form thin text) names) [] (first_step thin)) (thin_line thin nought (StepMark 0) thin.start) (ending_line Horizon) (first_line thin text names named),
 )
 
 -- the flow ends in a fault
-too_wide : (thin : Thin) (text : ThinText) (names : List (List ℕ)) (horizon : Fraction) (steps : ℕ) → get_or names text.name [] ≡ thin.name → IsFrac thin.start → IsFrac thin.slope → IsTime horizon → is_same nought horizon ≡ false → move_fault (thin_form thin text) (first_step thin) (flow_table thin nought) horizon ≡ Some (record { kind = Range; at = thin.at }) → Traced (thin_form thin text) names (horizon_script horizon steps) (fault_end thin) (concat (thin_line thin nought (StepMark 0) thin.start ∷ ending_line (fault_end thin) ∷ []))
+too_wide : (thin : Thin) (text : ThinText) (names : List (List ℕ)) (horizon : Fraction) (steps : ℕ) → get_or names text.name [] ≡ thin.name → IsFrac thin.start → IsFrac thin.slope → IsTime horizon → is_same nought horizon ≡ false → move_fault (thin_system thin text) (first_step thin) (flow_of thin) horizon ≡ Some (record { kind = Range; at = thin.at }) → Traced (thin_form thin text) names (horizon_script horizon steps) (fault_end thin) (concat (thin_line thin nought (StepMark 0) thin.start ∷ ending_line (fault_end thin) ∷ []))
 too_wide thin text names horizon steps named a k t e wide = (
   first_step thin ∷ [],
   record {
     instants = step_is thin text horizon steps;
-    ends = inr (record {
-      fault = record { kind = Range; at = thin.at };
-      is = refl;
-      wide = inr (record { at = flow_table thin; duration = horizon; move = move_is thin text horizon steps a k t e; wide = wide });
-    });
+    ends = inr (ByMove (flow_of thin) horizon (record { kind = Range; at = thin.at }) (move_is thin text horizon steps a k t e) wide);
   },
-  one_and (line_of (thin_form thin text) names [] (first_step thin)) (thin_line thin nought (StepMark 0) thin.start) (ending_line (fault_end thin)) (first_line thin text names named),
+  one_and (line_of (outputs (thin_form thin text) names) [] (first_step thin)) (thin_line thin nought (StepMark 0) thin.start) (ending_line (fault_end thin)) (first_line thin text names named),
 )
 
 -- the flow comes to the horizon
-left_is : (thin : Thin) (text : ThinText) (horizon : Fraction) (steps : ℕ) → IsFrac thin.start → IsFrac thin.slope → IsTime horizon → is_same nought horizon ≡ false → move_fault (thin_form thin text) (first_step thin) (flow_table thin nought) horizon ≡ None → LeftAfter (thin_form thin text) thin_grades (horizon_script horizon steps) [] (first_step thin) (left_end thin horizon)
+left_is : (thin : Thin) (text : ThinText) (horizon : Fraction) (steps : ℕ) → IsFrac thin.start → IsFrac thin.slope → IsTime horizon → is_same nought horizon ≡ false → move_fault (thin_system thin text) (first_step thin) (flow_of thin) horizon ≡ None → LeftAfter (thin_system thin text) (horizon_script horizon steps) [] (first_step thin) (left_end thin horizon)
 unfolding equation turn
 left_is thin text horizon steps a k t e fits = record {
-  at = flow_table thin;
+  flow = flow_of thin;
   duration = horizon;
   move = move_is thin text horizon steps a k t e;
   fits = fits;
   kind = refl;
   time = sym (zero-add horizon t.number.reduced);
   inputs = refl;
-  solves = record { fired = refl; table = refl };
+  fired = refl;
+  solves = refl;
 }
 
-arrives : (thin : Thin) (text : ThinText) (names : List (List ℕ)) (horizon : Fraction) (steps : ℕ) → get_or names text.name [] ≡ thin.name → IsFrac thin.start → IsFrac thin.slope → IsTime horizon → is_same nought horizon ≡ false → move_fault (thin_form thin text) (first_step thin) (flow_table thin nought) horizon ≡ None → Traced (thin_form thin text) names (horizon_script horizon steps) Horizon (concat (thin_line thin nought (StepMark 0) thin.start ∷ thin_line thin horizon LeftMark (arrival thin horizon) ∷ ending_line Horizon ∷ []))
+arrives : (thin : Thin) (text : ThinText) (names : List (List ℕ)) (horizon : Fraction) (steps : ℕ) → get_or names text.name [] ≡ thin.name → IsFrac thin.start → IsFrac thin.slope → IsTime horizon → is_same nought horizon ≡ false → move_fault (thin_system thin text) (first_step thin) (flow_of thin) horizon ≡ None → Traced (thin_form thin text) names (horizon_script horizon steps) Horizon (concat (thin_line thin nought (StepMark 0) thin.start ∷ thin_line thin horizon LeftMark (arrival thin horizon) ∷ ending_line Horizon ∷ []))
 arrives thin text names horizon steps named a k t e fits = (
   left_end thin horizon ∷ first_step thin ∷ [],
   record { instants = (step_is thin text horizon steps, inr (left_is thin text horizon steps a k t e fits)); ends = inl (after_left thin text horizon steps e) },
-  two_and (line_of (thin_form thin text) names [] (first_step thin)) (line_of (thin_form thin text) names (first_step thin ∷ []) (left_end thin horizon)) (thin_line thin nought (StepMark 0) thin.start) (thin_line thin horizon LeftMark (arrival thin horizon)) (ending_line Horizon) (first_line thin text names named) (left_line thin text names horizon named),
+  two_and (line_of (outputs (thin_form thin text) names) [] (first_step thin)) (line_of (outputs (thin_form thin text) names) (first_step thin ∷ []) (left_end thin horizon)) (thin_line thin nought (StepMark 0) thin.start) (thin_line thin horizon LeftMark (arrival thin horizon)) (ending_line Horizon) (first_line thin text names named) (left_line thin text names horizon named),
 )
 
 -- the end and the lines, by whether the horizon is 0 and whether what moves is in the width
@@ -224,7 +235,7 @@ module _ (thin : Thin) (text : ThinText) (names : List (List ℕ)) (horizon : Fr
   time_fits : fits (add nought horizon) ≡ true
   time_fits = ap (λ x. fits x) (zero-add horizon t.number.reduced) ∙ t.number.fits
 
-  moves_if : (x y : Bool) → fits (increment thin horizon) ≡ x → fits (arrival thin horizon) ≡ y → move_fault (thin_form thin text) (first_step thin) (flow_table thin nought) horizon ≡ (if x && y then None else Some (record { kind = Range; at = thin.at }))
+  moves_if : (x y : Bool) → fits (increment thin horizon) ≡ x → fits (arrival thin horizon) ≡ y → move_fault (thin_system thin text) (first_step thin) (flow_of thin) horizon ≡ (if x && y then None else Some (record { kind = Range; at = thin.at }))
   moves_if x y p q =
       moves_or thin text horizon x y t.number.fits time_fits
       (ap (λ m. fits m) (mul_comm horizon thin.slope) ∙ p) (ap (λ m. fits (add thin.start m)) (mul_comm horizon thin.slope) ∙ q)
@@ -280,6 +291,6 @@ thin_runs thin text names horizon steps k a t named =
       run = some.1;
       printed = some.2;
       only = λ h e run.
-          let same = one_run (thin_form thin text) (thin_ranks thin text) thin_grades (horizon_script horizon steps) h some.0 e (thin_run_end thin horizon) run some.1 in
+          let same = (one_run (thin_form thin text) (thin_ranks thin text) thin_grades (horizon_script horizon steps)).runs h some.0 e (thin_run_end thin horizon) run some.1 in
           (same.1, ap₂ (λ g x. trace (thin_form thin text) names g x) same.0 same.1 ∙ some.2);
     }

@@ -7,11 +7,12 @@ use Rattle.zl_value.specs.declared.thin.Thin.{Thin}
 use Rattle.zl_meaning.specs.FlatForm.{call_of}
 use Rattle.zl_meaning.specs.Uses.{Use, StartOf, ResetOf, SlopeOf, parts, uses_of}
 use Rattle.zl_meaning.specs.Branches.{IsPart, Under, Is, Part, Called}
+use Rattle.zl_meaning.proofs.UseCases.{listed-of-use, use-of-listed}
 use Rattle.zl_meaning.specs.Grades.{Grading, grade_of, place_grade, form_grade, greatest_grade, IsGraded}
 use Rattle.zl_meaning.specs.declared.place.PlaceInfo.{PlaceInfo}
 use Rattle.zl_meaning.specs.declared.occurrence.Occ.{Occ}
 use Rattle.zl_meaning.specs.ThinForm.{ThinText, thin_form, thin_grades, ThinIsGraded}
-use Rattle.zl_meaning.proofs.Ranks.{numbered}
+use Rattle.zl_meaning.proofs.NodeRanks.{numbered}
 
 abbrev grading : Grading
 grading = record { occs = thin_grades; places = 1 ∷ [] }
@@ -41,7 +42,7 @@ module _ (thin : Thin) (text : ThinText) where
       none_some (sym none ∙ is)
 
   used_so : (of : Use) (k : ℕ) → Under (thin_form thin text) of k → Has (uses_of (thin_form thin text) k) of
-  used_so of _ (Is k has) = has
+  used_so of _ (Is k u) = listed-of-use (thin_form thin text) k of u
   used_so of _ (Part k whole part under) = absurd (no_part k whole part)
   used_so of _ (Called k call is under) = absurd (no_call k call is)
 
@@ -80,7 +81,7 @@ module _ (thin : Thin) (text : ThinText) where
   }
 
   start_is : IsGraded (thin_form thin text) 2 → ⊥
-  start_is g = g.start None 0 (Is 2 (record { index = 0; is = refl }))
+  start_is g = g.start None 0 (Is 2 (use-of-listed (thin_form thin text) 2 (StartOf None 0) (record { index = 0; is = refl })))
 
   GradedAt : ℕ → Option Occ → Type 0
   GradedAt k None = Unit {0}

@@ -2,7 +2,7 @@
 use Rattle.std.specs.Prelude.{◌≡◌, ℕ, Bool, Option, Some, slice_get}
 use Rattle.zl_value.specs.Lists.{Has}
 use Rattle.zl_meaning.specs.FlatForm.{FlatForm, call_of}
-use Rattle.zl_meaning.specs.Uses.{Use, BranchOf, parts, uses_of}
+use Rattle.zl_meaning.specs.Uses.{Use, BranchOf, IsUse, parts}
 use Rattle.zl_meaning.specs.declared.occurrence.Occ.{Occ}
 
 -- occurrence number `k` is a part of number `whole`
@@ -14,7 +14,7 @@ pub record IsPart (f : FlatForm) (k whole : ℕ) : Type 0 where
 -- occurrence number `k` stands under the use: it is used so, or is a part of what stands there, or stands in the copy of a
 -- call that does
 pub data Under (f : FlatForm) (of : Use) : ℕ → Type 0 where
-  Is : (k : ℕ) → Has (uses_of f k) of → Under f of k
+  Is : (k : ℕ) → IsUse f k of → Under f of k
   Part : (k whole : ℕ) → IsPart f k whole → Under f of whole → Under f of k
   Called : (k call : ℕ) → call_of f k ≡ Some call → Under f of call → Under f of k
 

@@ -1,12 +1,13 @@
 -- Runs in which what has to be decided has a value.
 use Rattle.std.specs.Prelude.{◌≡◌, ℕ, true, List, ◌∷◌, IsSome, Option, None}
 use Rattle.zl_value.specs.Lists.{Has}
+use Rattle.zl_value.specs.Instants.{Step}
 use Rattle.zl_value.specs.Script.{IsScriptFor}
 use Rattle.zl_value.specs.declared.script.Script.{Script}
 use Rattle.zl_meaning.specs.FlatForm.{FlatForm}
-use Rattle.zl_meaning.specs.Uses.{SlopeOf, TestOf, uses_of}
+use Rattle.zl_meaning.specs.Uses.{SlopeOf, TestOf, IsUse}
 use Rattle.zl_meaning.specs.State.{State, AtPlace, AtUsed, AtValue}
-use Rattle.zl_meaning.specs.History.{Step, Instant, History, state_of}
+use Rattle.zl_meaning.specs.History.{Instant, History, state_of}
 use Rattle.zl_meaning.specs.Solves.{instant_fault}
 use Rattle.zl_meaning.specs.Run.{IsPrefix}
 use Rattle.zl_meaning.specs.Inputs.{input_types}
@@ -21,10 +22,10 @@ AtAllInstants f grades P = (script : Script) (h : History) (i : Instant) → IsS
 
 -- each test that is evaluated has a value; each derivative; each result of main
 abbrev pub HasTests : FlatForm → List ℕ → Type 0
-HasTests f grades = AtAllInstants f grades (λ i. (k : ℕ) → Has (uses_of f k) TestOf → IsThere (state_of i) k)
+HasTests f grades = AtAllInstants f grades (λ i. (k : ℕ) → IsUse f k TestOf → IsThere (state_of i) k)
 
 abbrev pub HasDerivatives : FlatForm → List ℕ → Type 0
-HasDerivatives f grades = AtAllInstants f grades (λ i. (k : ℕ) (call : Option ℕ) → Has (uses_of f k) (SlopeOf call) → IsThere (state_of i) k)
+HasDerivatives f grades = AtAllInstants f grades (λ i. (k : ℕ) (call : Option ℕ) → IsUse f k (SlopeOf call) → IsThere (state_of i) k)
 
 abbrev pub HasOutputs : FlatForm → List ℕ → Type 0
 HasOutputs f grades = AtAllInstants f grades (λ i. (p : ℕ) → Has f.outs p → IsSome (state_of i (AtPlace p)))

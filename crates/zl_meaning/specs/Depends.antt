@@ -1,7 +1,7 @@
 -- Which places and blocks depend on which, and what it means that a form is causal. The relation is this project's own.
 use Rattle.std.specs.Prelude.{◌≡◌, ℕ, ◌<◌, Bool, true, List, [], ◌∷◌, length, slice_get, get_or, Option, Some}
 use Rattle.zl_value.specs.Lists.{Has}
-use Rattle.zl_meaning.specs.FlatForm.{FlatForm, kind_of, parent_of, place_call}
+use Rattle.zl_meaning.specs.FlatForm.{FlatForm, HasForm, HasDefiner, kind_of, parent_of, place_call}
 use Rattle.zl_meaning.specs.Uses.{BranchOf, ResetOf, parts}
 use Rattle.zl_meaning.specs.Branches.{Under}
 use Rattle.zl_meaning.specs.WellFormed.{named_in}
@@ -19,14 +19,6 @@ use Rattle.zl_meaning.specs.declared.occurrence.Occ.{Occ}
 -- a place or a block
 pub data Thing : Type 0 where
   PlaceThing BlockThing : ℕ → Thing
-
--- occurrence number `k` has this form
-abbrev pub HasForm : FlatForm → ℕ → Form → Type 0
-HasForm f k form = (occ : Occ) × (slice_get f.occs k ≡ Some occ) × (occ.form ≡ form)
-
--- place number `p` has this definer
-abbrev pub HasDefiner : FlatForm → ℕ → Definer → Type 0
-HasDefiner f p definer = (place : PlaceInfo) × (slice_get f.places p ≡ Some place) × Has place.definers definer
 
 -- the parts whose value an occurrence reads at its own instant
 abbrev pub read_parts : Form → List ℕ

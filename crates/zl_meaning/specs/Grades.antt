@@ -5,14 +5,14 @@ use Rattle.zl_value.specs.Lists.{Has}
 use Rattle.zl_value.specs.declared.op.Op.{Op}
 use Rattle.zl_value.specs.declared.op.Op.TheVariants.{AddFloat, SubFloat, MulFloat, DivFloat, NegFloat}
 use Rattle.zl_meaning.specs.FlatForm.{FlatForm}
-use Rattle.zl_meaning.specs.Uses.{SlopeOf, StartOf, ResetOf, ArgumentOf, uses_of}
+use Rattle.zl_meaning.specs.Uses.{SlopeOf, StartOf, ResetOf, ArgumentOf, IsUse}
 use Rattle.zl_meaning.specs.Branches.{Under}
-use Rattle.zl_meaning.specs.Regular.{is_hybrid_block}
+use Rattle.zl_meaning.specs.Regular.{is_hybrid_block, is_value}
 use Rattle.zl_meaning.specs.declared.place.Definer.{Definer}
 use Rattle.zl_meaning.specs.declared.place.Definer.TheVariants.{Input, Plain, Der, Start}
 use Rattle.zl_meaning.specs.declared.place.PlaceInfo.{PlaceInfo}
 use Rattle.zl_meaning.specs.declared.occurrence.Form.{Form}
-use Rattle.zl_meaning.specs.declared.occurrence.Form.TheVariants.{Read, Op as Apply, If, Result, Up, Fired}
+use Rattle.zl_meaning.specs.declared.occurrence.Form.TheVariants.{Read, Op as Apply, If, Arrow, Result, Up, Fired}
 use Rattle.zl_meaning.specs.declared.occurrence.Occ.{Occ}
 
 -- the grades of the occurrences and of the places, by number; an occurrence that isn't graded, and one that a pass
@@ -27,13 +27,7 @@ grade_of g k = get_or g.occs k 3
 abbrev pub place_grade : Grading → ℕ → ℕ
 place_grade g p = get_or g.places p 0
 
--- an `up` and an event aren't graded
-abbrev pub is_value : Form → Bool
-is_value (Up site) = false
-is_value (Fired ks) = false
-is_value form = true
-
--- graded is what stands in hybrid context and isn't under an `init` value or a reset value
+-- graded is what stands in hybrid context and isn't under an `init` value or a reset value, but no `up` and no event
 pub record IsGraded (f : FlatForm) (k : ℕ) : Type 0 where
   pub occ : Occ
   pub is : slice_get f.occs k ≡ Some occ
@@ -64,6 +58,7 @@ form_grade g (Read p) = place_grade g p
 form_grade g (Result x) = grade_of g x
 form_grade g (Apply op ks) = op_grade g op ks
 form_grade g (If c x y) = max (grade_of g x) (grade_of g y)
+form_grade g (Arrow x y) = grade_of g y
 form_grade g form = 0
 
 -- what a definer adds to the grade of its place: a plain one its own grade, if it is graded, a `der` 1
@@ -101,8 +96,8 @@ keeps_lines _ = false
 pub data IsNeeded (f : FlatForm) : ℕ → ℕ → Type 0 where
   Condition : (k whole x y : ℕ) (occ : Occ) → IsGraded f whole → slice_get f.occs whole ≡ Some occ → occ.form ≡ If k x y → IsNeeded f k 0
   Operand : (k whole : ℕ) (op : Op) (ks : List ℕ) (occ : Occ) → IsGraded f whole → slice_get f.occs whole ≡ Some occ → occ.form ≡ Apply op ks → keeps_lines op ≡ false → Has ks k → IsNeeded f k 0
-  Derivative : (k : ℕ) (call : Option ℕ) → Has (uses_of f k) (SlopeOf call) → IsNeeded f k 0
-  Argument : (k : ℕ) → Has (uses_of f k) ArgumentOf → IsNeeded f k 1
+  Derivative : (k : ℕ) (call : Option ℕ) → IsUse f k (SlopeOf call) → IsNeeded f k 0
+  Argument : (k : ℕ) → IsUse f k ArgumentOf → IsNeeded f k 1
 
 -- a program is refused at the first occurrence that has a greater grade than is needed of it
 abbrev pub IsOverGraded : FlatForm → Grading → ℕ → Type 0

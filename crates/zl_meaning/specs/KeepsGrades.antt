@@ -5,13 +5,14 @@ use Rattle.zl_value.specs.Lists.{Has}
 use Rattle.zl_value.specs.Times.{nought, unit, is_negative}
 use Rattle.zl_value.specs.Script.{IsScriptFor}
 use Rattle.zl_value.specs.OperatorTypes.{can_fault}
+use Rattle.zl_value.specs.declared.op.Op.{Op}
 use Rattle.zl_value.specs.declared.value.Value.{Value}
 use Rattle.zl_value.specs.declared.value.Value.TheVariants.{F}
 use Rattle.zl_value.specs.declared.value.Ty.{Ty}
 use Rattle.zl_value.specs.declared.value.Ty.TheVariants.{Bool as BoolTy, Int, Float}
 use Rattle.zl_value.specs.declared.script.Script.{Script}
 use Rattle.zl_meaning.specs.FlatForm.{FlatForm}
-use Rattle.zl_meaning.specs.Uses.{SlopeOf, ArgumentOf, uses_of}
+use Rattle.zl_meaning.specs.Uses.{SlopeOf, ArgumentOf, IsUse}
 use Rattle.zl_meaning.specs.State.{Table, state_in, AtPlace, AtUsed, AtValue, value_in}
 use Rattle.zl_meaning.specs.History.{Instant, History, state_of}
 use Rattle.zl_meaning.specs.Solves.{instant_fault}
@@ -19,13 +20,12 @@ use Rattle.zl_meaning.specs.Demand.{is_demanded}
 use Rattle.zl_meaning.specs.Flow.{Flow}
 use Rattle.zl_meaning.specs.Run.{IsPrefix}
 use Rattle.zl_meaning.specs.Inputs.{input_types}
-use Rattle.zl_meaning.specs.Grades.{Grading, grade_of, place_grade, form_grade}
+use Rattle.zl_meaning.specs.Grades.{Grading, grade_of, place_grade, op_grade}
 use Rattle.zl_meaning.specs.declared.place.Definer.TheVariants.{Plain}
 use Rattle.zl_meaning.specs.declared.place.PlaceInfo.{PlaceInfo}
 use Rattle.zl_meaning.specs.declared.occurrence.Form.{Form}
 use Rattle.zl_meaning.specs.declared.occurrence.Form.TheVariants.{Lit, Read, Last, Op as Apply, If, Arrow, Pre, Result}
 use Rattle.zl_meaning.specs.declared.occurrence.Occ.{Occ}
-use Rattle.zl_meaning.specs.Depends.{HasForm, HasDefiner}
 
 -- the moments of a flow
 pub record IsMoment (s : Fraction) : Type 0 where
@@ -49,10 +49,6 @@ MovesOnLine at = (s : Fraction) → IsMoment s → at s ≡ on_line (at nought) 
 abbrev pub IsAppended : Grading → ℕ → Type 0
 IsAppended g k = length g.occs ≤ k
 
--- its grade is at most 1, or it was appended
-abbrev pub IsLinear : Grading → ℕ → Type 0
-IsLinear g k = (grade_of g k ≤ 1) ⊎ IsAppended g k
-
 abbrev pub can_fail : Form → Bool
 can_fail (Apply op ks) = can_fault op
 can_fail _ = false
@@ -75,12 +71,12 @@ passes_on (Arrow x y) = true
 passes_on (Pre x) = true
 passes_on _ = false
 
--- an operator, an `if` or a call: what has its grade from its parts
-abbrev pub has_parts_grade : Form → Bool
-has_parts_grade (Apply op ks) = true
-has_parts_grade (If c x y) = true
-has_parts_grade (Result x) = true
-has_parts_grade _ = false
+-- the parts from which an occurrence of this form has its value in a flow
+abbrev pub passed_by : Form → List ℕ
+passed_by (If c x y) = x ∷ y ∷ []
+passed_by (Arrow x y) = y ∷ []
+passed_by (Result x) = x ∷ []
+passed_by _ = []
 
 abbrev pub IsStillType : Ty → Type 0
 IsStillType ty = (ty ≡ BoolTy) ⊎ (ty ≡ Int)
@@ -92,32 +88,39 @@ value_along at k s = value_in (state_in (at s)) k
 abbrev pub place_along : (Fraction → Table) → ℕ → Fraction → Option Value
 place_along at p s = state_in (at s) (AtPlace p)
 
--- in the flow `at` after instant `i` everything moves as its grade says; `demanded` says whether a step is demanded then
-pub record FlowKeeps (f : FlatForm) (g : Grading) (i : Instant) (demanded : Bool) (at : Fraction → Table) : Type 0 where
+-- in the flow `at` after instant `i` everything moves as its grade says; `demanded` says whether a step is demanded then.
+-- `whole` is a grading of all occurrences and places, appended ones too
+pub record FlowKeeps (f : FlatForm) (g whole : Grading) (i : Instant) (demanded : Bool) (at : Fraction → Table) : Type 0 where
   pub still : (k : ℕ) → grade_of g k ≡ 0 → StandsStill (value_along at k)
   pub still_places : (p : ℕ) (place : PlaceInfo) → slice_get f.places p ≡ Some place → p < length g.places → place_grade g p ≡ 0 → StandsStill (place_along at p)
   pub still_types : (k : ℕ) (occ : Occ) → slice_get f.occs k ≡ Some occ → IsStillType occ.ty → StandsStill (value_along at k)
   pub lines : (k : ℕ) (occ : Occ) → slice_get f.occs k ≡ Some occ → occ.ty ≡ Float → grade_of g k ≡ 1 → MovesOnLine (value_along at k)
   pub line_places : (p : ℕ) (place : PlaceInfo) → slice_get f.places p ≡ Some place → place.ty ≡ Float → place_grade g p ≡ 1 → MovesOnLine (place_along at p)
-  pub derivatives : (k : ℕ) (call : Option ℕ) → Has (uses_of f k) (SlopeOf call) → StandsStill (value_along at k)
-  pub arguments : (k : ℕ) → Has (uses_of f k) ArgumentOf → MovesOnLine (value_along at k)
-  pub derivatives_start : (k : ℕ) (call : Option ℕ) → demanded ≡ false → Has (uses_of f k) (SlopeOf call) → value_along at k nought ≡ value_in (state_of i) k
-  pub arguments_start : (k : ℕ) → demanded ≡ false → Has (uses_of f k) ArgumentOf → value_along at k nought ≡ value_in (state_of i) k
+  pub derivatives : (k : ℕ) (call : Option ℕ) → IsUse f k (SlopeOf call) → StandsStill (value_along at k)
+  pub arguments : (k : ℕ) → IsUse f k ArgumentOf → MovesOnLine (value_along at k)
+  pub derivatives_start : (k : ℕ) (call : Option ℕ) → demanded ≡ false → IsUse f k (SlopeOf call) → value_along at k nought ≡ value_in (state_of i) k
+  pub arguments_start : (k : ℕ) → demanded ≡ false → IsUse f k ArgumentOf → value_along at k nought ≡ value_in (state_of i) k
   pub failing_used : (k : ℕ) (occ : Occ) → demanded ≡ false → slice_get f.occs k ≡ Some occ → can_fail occ.form ≡ true → state_in (at nought) (AtUsed k) ≡ true → state_of i (AtUsed k) ≡ true
   pub failing_operands : (k j : ℕ) (occ : Occ) → demanded ≡ false → slice_get f.occs k ≡ Some occ → can_fail occ.form ≡ true → state_in (at nought) (AtUsed k) ≡ true → Has (operands occ.form) j → state_in (at nought) (AtValue j) ≡ state_of i (AtValue j)
   pub others : (k : ℕ) (s : Fraction) (occ : Occ) → IsMoment s → k < length g.occs → grade_of g k ≡ 3 → slice_get f.occs k ≡ Some occ → is_operator occ.form ≡ true → state_in (at s) (AtUsed k) ≡ false
-  pub branches : (k j c x y : ℕ) (s : Fraction) → IsMoment s → IsAppended g k → HasForm f k (If c x y) → (j ≡ x) ⊎ (j ≡ y) → IsLinear g j ⊎ (state_in (at s) (AtUsed j) ≡ false)
+  pub definers : (p b k : ℕ) (place : PlaceInfo) → slice_get f.places p ≡ Some place → place.ty ≡ Float → place_grade whole p ≤ 1 → Has place.definers (Plain b k) → state_in (at nought) (AtUsed k) ≡ true → grade_of whole k ≤ place_grade whole p
+  pub passes : (k j : ℕ) (occ : Occ) → slice_get f.occs k ≡ Some occ → occ.ty ≡ Float → grade_of whole k ≤ 1 → Has (passed_by occ.form) j → state_in (at nought) (AtUsed j) ≡ true → grade_of whole j ≤ grade_of whole k
 
--- what the form itself keeps of its grades: they are as the table says, and what was appended only passes values on
-pub record FormKeeps (f : FlatForm) (g : Grading) : Type 0 where
+-- what the form itself keeps of its grades: what was appended only passes values on, and `whole` has the given grades at the
+-- old occurrences, and at all no less than the table says of operators and names
+pub record FormKeeps (f : FlatForm) (g whole : Grading) : Type 0 where
   pub appended : (k : ℕ) (occ : Occ) → slice_get f.occs k ≡ Some occ → IsAppended g k → occ.ty ≡ Float → passes_on occ.form ≡ true
   pub no_fault : (k : ℕ) (occ : Occ) → slice_get f.occs k ≡ Some occ → IsAppended g k → can_fail occ.form ≡ false
-  pub table : (k : ℕ) (occ : Occ) → slice_get f.occs k ≡ Some occ → occ.ty ≡ Float → grade_of g k ≤ 1 → has_parts_grade occ.form ≡ true → grade_of g k ≡ form_grade g occ.form
-  pub names : (k p b j : ℕ) (occ : Occ) → slice_get f.occs k ≡ Some occ → occ.ty ≡ Float → (grade_of g k ≤ 2) ⊎ IsAppended g k → occ.form ≡ Read p → HasDefiner f p (Plain b j) → IsLinear g j
-  pub sites : (k : ℕ) → Has (uses_of f k) ArgumentOf → IsLinear g k
+  pub occs_length : length whole.occs ≡ length f.occs
+  pub places_length : length whole.places ≡ length f.places
+  pub old : (k : ℕ) → k < length g.occs → grade_of whole k ≡ grade_of g k
+  pub operators : (k : ℕ) (op : Op) (ks : List ℕ) (occ : Occ) → slice_get f.occs k ≡ Some occ → occ.ty ≡ Float → grade_of whole k ≤ 1 → occ.form ≡ Apply op ks → op_grade whole op ks ≤ grade_of whole k
+  pub names : (k p : ℕ) (occ : Occ) → slice_get f.occs k ≡ Some occ → occ.ty ≡ Float → grade_of whole k ≤ 1 → occ.form ≡ Read p → place_grade whole p ≤ grade_of whole k
+  pub sites : (k : ℕ) → IsUse f k ArgumentOf → grade_of whole k ≤ 1
 
 -- the form keeps these grades: it does itself, and in the flow after each instant without a fault of each beginning of a
 -- run everything moves as its grade says
 pub record KeepsGrades (f : FlatForm) (g : Grading) : Type 0 where
-  pub form : FormKeeps f g
-  pub flows : (script : Script) (h : History) (i : Instant) (at : Fraction → Table) → IsScriptFor (input_types f) script → IsPrefix f g.occs script (i ∷ h) → instant_fault f h i ≡ None → Flow f h i at → FlowKeeps f g i (is_demanded f script (i ∷ h)) at
+  pub whole : Grading
+  pub form : FormKeeps f g whole
+  pub flows : (script : Script) (h : History) (i : Instant) (at : Fraction → Table) → IsScriptFor (input_types f) script → IsPrefix f g.occs script (i ∷ h) → instant_fault f h i ≡ None → Flow f h i at → FlowKeeps f g whole i (is_demanded f script (i ∷ h)) at

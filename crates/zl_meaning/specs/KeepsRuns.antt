@@ -11,13 +11,17 @@ use Rattle.zl_meaning.specs.Solves.{instant_fault}
 use Rattle.zl_meaning.specs.Run.{IsPrefix, IsRun}
 use Rattle.zl_meaning.specs.Inputs.{input_types}
 
+-- of the sites that fire in the result, those that its argument has
+abbrev pub old_sites : FlatForm → List ℕ → List ℕ
+old_sites f fired = filter (λ n. nat_lt n (length f.sites)) fired
+
 -- instant `new` of the result is instant `old` of the argument `f`: it has the same kind, time and inputs, and at the old
 -- numbers the same fired sites and values of places
 pub record IsSeenAs (f : FlatForm) (new old : Instant) : Type 0 where
   pub kind : old.kind ≡ new.kind
   pub time : old.time ≡ new.time
   pub inputs : old.inputs ≡ new.inputs
-  pub fired : old.fired ≡ filter (λ n. nat_lt n (length f.sites)) new.fired
+  pub fired : old.fired ≡ old_sites f new.fired
   pub places : (p : ℕ) → p < length f.places → state_of old (AtPlace p) ≡ state_of new (AtPlace p)
 
 -- the same of each instant of a history

@@ -3,6 +3,7 @@ pub mod Uses
 pub mod Branches
 pub mod WellFormed
 pub mod Single
+pub mod Copies
 pub mod Regular
 pub mod Depends
 pub mod Grades
@@ -15,9 +16,10 @@ pub mod Places
 pub mod Occurrences
 pub mod Equation
 pub mod Solves
-pub mod Demand
-pub mod Flow
 pub mod Slopes
+pub mod Flow
+pub mod System
+pub mod Demand
 pub mod Run
 pub mod Trace
 pub mod Inputs
@@ -25,6 +27,10 @@ pub mod KeepsGrades
 pub mod KeepsRuns
 pub mod Decided
 pub mod Reading
+pub mod Levels
+pub mod Causality
+pub mod GradesLaw
+pub mod OneInstant
 pub mod Laws
 pub mod ThinForm
 pub mod Worked

@@ -14,7 +14,7 @@ use Rattle.zl_meaning.specs.State.{State, AtControl, AtPlace, AtUsed, AtValue, i
 use Rattle.zl_meaning.specs.Moment.{Mode, AtStep, AtLeft, InFlow, Moment, is_at_step, is_fresh, is_called, decide, is_number}
 use Rattle.zl_meaning.specs.Places.{last_of}
 use Rattle.zl_meaning.specs.declared.occurrence.Form.{Form}
-use Rattle.zl_meaning.specs.declared.occurrence.Form.TheVariants.{Lit, Read, Last, Op as Apply, If, Arrow, Pre, Result, Up, Fired}
+use Rattle.zl_meaning.specs.declared.occurrence.Form.TheVariants.{Lit, Read, Last, Op as Apply, If, Arrow, Pre, Result, Up, Fired, Step}
 use Rattle.zl_meaning.specs.declared.occurrence.Occ.{Occ}
 
 -- the values of these occurrences, if each has one
@@ -67,6 +67,7 @@ answer f m s b (Pre x) = given (if is_fresh m s b then None else value_in m.befo
 answer f m s b (Result x) = given (s (AtValue x))
 answer f m s b (Up site) = Gives (B (up_holds m s b site))
 answer f m s b (Fired ks) = fired_answer m.mode s ks
+answer f m s b Step = Gives (B (is_at_step m.mode))
 
 -- the value of an occurrence, whether or not it is evaluated: there is none where its block isn't active
 abbrev pub value_of : FlatForm → Moment → State → Option Occ → Option Value

@@ -18,7 +18,7 @@ use Rattle.zl_meaning.specs.declared.place.Definer.TheVariants.{Input, Plain, De
 use Rattle.zl_meaning.specs.declared.place.DerArm.{DerArm}
 use Rattle.zl_meaning.specs.declared.place.PlaceInfo.{PlaceInfo}
 use Rattle.zl_meaning.specs.declared.occurrence.Form.{Form}
-use Rattle.zl_meaning.specs.declared.occurrence.Form.TheVariants.{Lit, Read, Last, Op as Apply, If, Arrow, Pre, Result, Up, Fired}
+use Rattle.zl_meaning.specs.declared.occurrence.Form.TheVariants.{Lit, Read, Last, Op as Apply, If, Arrow, Pre, Result, Up, Fired, Step}
 use Rattle.zl_meaning.specs.declared.occurrence.Occ.{Occ}
 
 -- a property of entries
@@ -145,6 +145,7 @@ ReadsForm f P Q b (Pre x) = ReadsFresh P Q b × Q (AtUsed x) × Q (AtValue x)
 ReadsForm f P Q b (Result x) = P (AtValue x)
 ReadsForm f P Q b (Up site) = ReadsFresh P Q b
 ReadsForm f P Q b (Fired ks) = ReadsValues P ks
+ReadsForm f P Q b Step = Unit {0}
 
 abbrev pub ReadsValue : FlatForm → Entries → Entries → Option Occ → Type 0
 ReadsValue f P Q None = Unit {0}

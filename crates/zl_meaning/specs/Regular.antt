@@ -1,15 +1,15 @@
 -- Forms as the expansion of a program makes them: what stands in which context.
 use Rattle.std.specs.Prelude.{◌≡◌, ℕ, Bool, true, false, [], ◌⊎◌, slice_get, Option, Some, None}
 use Rattle.std.specs.Option.{option_map}
-use Rattle.zl_value.specs.Lists.{Has}
-use Rattle.zl_meaning.specs.FlatForm.{FlatForm}
-use Rattle.zl_meaning.specs.Uses.{Use, PartOf, BranchOf, DefinerOf, SlopeOf, EventOf, StartOf, ResetOf, TestOf, ArgumentOf, AgainOf, uses_of}
+use Rattle.zl_meaning.specs.FlatForm.{FlatForm, HasForm, place_call}
+use Rattle.zl_meaning.specs.Uses.{Use, PartOf, BranchOf, DefinerOf, SlopeOf, EventOf, StartOf, ResetOf, TestOf, ArgumentOf, AgainOf, IsUse, IsUnused}
+use Rattle.zl_meaning.specs.Copies.{KeepsCopies}
 use Rattle.zl_meaning.specs.declared.block.Block.{Block}
 use Rattle.zl_meaning.specs.declared.block.BlockKind.{BlockKind}
 use Rattle.zl_meaning.specs.declared.block.BlockKind.TheVariants.{Main, Arm}
 use Rattle.zl_meaning.specs.declared.block.Choice.{Choice}
 use Rattle.zl_meaning.specs.declared.occurrence.Form.{Form}
-use Rattle.zl_meaning.specs.declared.occurrence.Form.TheVariants.{Lit, Read, Last, Op as Apply, If, Arrow, Pre, Result, Up, Fired}
+use Rattle.zl_meaning.specs.declared.occurrence.Form.TheVariants.{Lit, Read, Last, Op as Apply, If, Arrow, Pre, Result, Up, Fired, Step}
 use Rattle.zl_meaning.specs.declared.occurrence.Occ.{Occ}
 use Rattle.zl_meaning.specs.declared.occurrence.SiteInfo.{SiteInfo}
 
@@ -80,7 +80,8 @@ use_context context form block TestOf = test_context block
 use_context context form block ArgumentOf = Plainly
 use_context context form block AgainOf = block
 
--- what may stand in a context; an event stands as a test or as the event of a reset arm, and its `up`s in it alone
+-- what may stand in a context; an event stands as a test or as the event of a reset arm, and its `up`s in it alone. No
+-- program asks whether the instant is a step
 abbrev pub IsAllowed : Context → Form → Type 0
 IsAllowed c (Lit v) = Unit {0}
 IsAllowed c (Read p) = Unit {0}
@@ -92,6 +93,13 @@ IsAllowed c (Pre x) = c ≡ Discrete
 IsAllowed c (Result x) = Unit {0}
 IsAllowed c (Up site) = c ≡ Hybrid
 IsAllowed c (Fired ks) = c ≡ Hybrid
+IsAllowed c Step = ⊥
+
+-- an `up` and an event have no value that a program could read
+abbrev pub is_value : Form → Bool
+is_value (Up site) = false
+is_value (Fired ks) = false
+is_value form = true
 
 abbrev pub is_event : Form → Bool
 is_event (Fired ks) = true
@@ -125,12 +133,14 @@ use_call own _ = own
 -- one occurrence, of which `context k` is the context, in a block that is hybrid or not
 pub record IsRegularAt (f : FlatForm) (context : ℕ → Context) (hybrid : Bool) (k : ℕ) (occ : Occ) : Type 0 where
   pub allowed : IsAllowed (context k) occ.form
-  pub unused : uses_of f k ≡ [] → context k ≡ called_context context (context_of_block hybrid) occ.call
-  pub contexts : (of : Use) → Has (uses_of f k) of → context k ≡ use_context context (form_in f) (context_of_block hybrid) of
-  pub equations : (of : Use) → Has (uses_of f k) of → IsUseIn (called_context context (context_of_block hybrid) (use_call occ.call of)) of
-  pub tests : (of : Use) → Has (uses_of f k) of → IsTestFor hybrid of occ.form
+  pub unused : IsUnused f k → context k ≡ called_context context (context_of_block hybrid) occ.call
+  pub unused_form : IsUnused f k → is_value occ.form ≡ true
+  pub contexts : (of : Use) → IsUse f k of → context k ≡ use_context context (form_in f) (context_of_block hybrid) of
+  pub equations : (of : Use) → IsUse f k of → IsUseIn (called_context context (context_of_block hybrid) (use_call occ.call of)) of
+  pub tests : (of : Use) → IsUse f k of → IsTestFor hybrid of occ.form
 
--- blocks are hybrid, and occurrences stand in contexts, as the tables say; the sites are in hybrid blocks
+-- blocks are hybrid, and occurrences stand in contexts, as the tables say; the sites are in hybrid blocks. In the copy of a
+-- call that is combinatorial with `last`, no variable of that copy stands behind `last`: its arguments alone may have one
 pub record IsRegular (f : FlatForm) : Type 0 where
   pub blocks : (b : ℕ) (block : Block) → slice_get f.blocks b ≡ Some block → IsHybridBy f block.hybrid block.parent block.kind
   pub choices : (n : ℕ) (choice : Choice) → slice_get f.choices n ≡ Some choice → is_hybrid_block f choice.block ≡ true → choice.other ≡ false
@@ -138,3 +148,5 @@ pub record IsRegular (f : FlatForm) : Type 0 where
   pub occs : (k : ℕ) (occ : Occ) → slice_get f.occs k ≡ Some occ → IsRegularAt f context (is_hybrid_block f occ.block) k occ
   pub sites : (n : ℕ) (site : SiteInfo) → slice_get f.sites n ≡ Some site → is_hybrid_block f site.block ≡ true
   pub arguments : (n : ℕ) (site : SiteInfo) (occ : Occ) → slice_get f.sites n ≡ Some site → slice_get f.occs site.arg ≡ Some occ → MarksNothing occ.form
+  pub lasts : (k p call : ℕ) → HasForm f k (Last p) → place_call f p ≡ Some call → context call ≡ WithLast → ⊥
+  pub copies : KeepsCopies f

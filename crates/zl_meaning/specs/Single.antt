@@ -1,7 +1,7 @@
 -- Forms in which a place has one definer at a time, and an occurrence one use.
 use Rattle.std.specs.Prelude.{◌≡◌, ℕ, Bool, true, false, List, [], ◌∷◌, slice_get, Option, Some}
-use Rattle.zl_meaning.specs.FlatForm.{FlatForm, IsWithin, kind_of}
-use Rattle.zl_meaning.specs.Uses.{Use, PartOf, BranchOf, DefinerOf, uses_of}
+use Rattle.zl_meaning.specs.FlatForm.{FlatForm, HasForm, IsWithin, call_of, kind_of}
+use Rattle.zl_meaning.specs.Uses.{Use, PartOf, BranchOf, DefinerOf, IsUnused, uses_of}
 use Rattle.zl_meaning.specs.declared.block.BlockKind.{BlockKind}
 use Rattle.zl_meaning.specs.declared.block.BlockKind.TheVariants.{Arm, State as Body}
 use Rattle.zl_meaning.specs.declared.place.Definer.{Definer}
@@ -40,13 +40,13 @@ is_start (Plain b k) = false
 is_start (Der b slope resets) = false
 is_start (Start b k) = true
 
--- the uses of an occurrence that has one: one use alone, or the result of a call that a definer names too, or a name that
--- is both branches of an `if`
+-- the uses of an occurrence that has one: one use alone; or the result of a call that a definer names too, where nothing
+-- uses the call, which has the call of the place that is defined; or a name that is both branches of an `if`
 pub data IsOneUse (f : FlatForm) (k : ℕ) : List Use → Type 0 where
   Unused : IsOneUse f k []
   Once : (of : Use) → IsOneUse f k (of ∷ [])
-  OfCall : (whole : ℕ) (occ : Occ) (call : Option ℕ) → slice_get f.occs whole ≡ Some occ → occ.form ≡ Result k → IsOneUse f k (PartOf whole ∷ DefinerOf call ∷ [])
-  OfBranches : (whole condition p : ℕ) (occ : Occ) → slice_get f.occs k ≡ Some occ → occ.form ≡ Read p → IsOneUse f k (BranchOf whole condition true ∷ BranchOf whole condition false ∷ [])
+  OfCall : (whole : ℕ) → HasForm f whole (Result k) → IsUnused f whole → IsOneUse f k (PartOf whole ∷ DefinerOf (call_of f whole) ∷ [])
+  OfBranches : (whole condition p : ℕ) → HasForm f k (Read p) → IsOneUse f k (BranchOf whole condition true ∷ BranchOf whole condition false ∷ [])
 
 -- every two definers of one place that are both `init`, or both not, are never active together; and occurrences aren't
 -- shared

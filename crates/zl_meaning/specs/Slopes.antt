@@ -1,20 +1,23 @@
--- The numbers of a flow that must be in the width.
-use Rattle.std.specs.Prelude.{ℕ, suc, nat_le, Bool, true, ◌&&◌, if◌then◌else◌, List, [], ◌∷◌, ◌++◌, map, length, slice_get, get_or, Option, Some, None}
+-- The slopes of a flow, which must be in the width, and the places that move in it.
+use Rattle.std.specs.Prelude.{ℕ, suc, nat_le, Bool, true, ◌&&◌, if◌then◌else◌, List, [], ◌∷◌, ◌++◌, length, slice_get, get_or, Option, Some, None}
 use Rattle.std.specs.List.{list_all}
-use Rattle.zl_value.specs.Fraction.{Fraction, add, sub, mul, fits}
+use Rattle.zl_value.specs.Fraction.{Fraction, sub, fits}
 use Rattle.zl_value.specs.Lists.{listed, when}
 use Rattle.zl_value.specs.Times.{holds, fails}
-use Rattle.zl_value.specs.Widths.{Tested, nowhere}
+use Rattle.zl_value.specs.Widths.{Tested, first_wide}
+use Rattle.zl_value.specs.System.{Motion}
 use Rattle.zl_value.specs.declared.position.Pos.{Pos}
+use Rattle.zl_value.specs.declared.value.Fault.{Fault}
 use Rattle.zl_value.specs.declared.value.Value.{Value}
 use Rattle.zl_value.specs.declared.value.Value.TheVariants.{F}
 use Rattle.zl_meaning.specs.FlatForm.{FlatForm}
 use Rattle.zl_meaning.specs.State.{Table, State, state_in, AtControl, AtPlace, AtUsed, AtValue, is_active}
+use Rattle.zl_meaning.specs.Grades.{keeps_lines}
 use Rattle.zl_meaning.specs.declared.place.Definer.{Definer}
 use Rattle.zl_meaning.specs.declared.place.Definer.TheVariants.{Plain, Der}
 use Rattle.zl_meaning.specs.declared.place.PlaceInfo.{PlaceInfo}
 use Rattle.zl_meaning.specs.declared.occurrence.Form.{Form}
-use Rattle.zl_meaning.specs.declared.occurrence.Form.TheVariants.{Lit, Read, Last, Op as Apply, If, Arrow, Pre, Result, Up, Fired}
+use Rattle.zl_meaning.specs.declared.occurrence.Form.TheVariants.{Lit, Read, Last, Op as Apply, If, Arrow, Pre, Result, Up, Fired, Step}
 use Rattle.zl_meaning.specs.declared.occurrence.Occ.{Occ}
 
 abbrev pub less : Option Value → Option Value → Option Fraction
@@ -35,18 +38,19 @@ abbrev pub plain_of : State → Option PlaceInfo → List ℕ
 plain_of s None = []
 plain_of s (Some place) = plain_by s place.definers
 
--- what the slope of an occurrence of this form is made from
+-- what the slope of an occurrence of this form is made from: an operator that doesn't keep lines has none
 abbrev pub sources : FlatForm → State → Form → List ℕ
 sources f s (Lit v) = []
 sources f s (Read p) = plain_of s (slice_get f.places p)
 sources f s (Last p) = []
-sources f s (Apply op ks) = ks
+sources f s (Apply op ks) = if keeps_lines op then ks else []
 sources f s (If c x y) = when (holds (s (AtValue c))) x ++ when (fails (s (AtValue c))) y
 sources f s (Arrow x y) = y ∷ []
 sources f s (Pre x) = []
 sources f s (Result x) = x ∷ []
 sources f s (Up site) = []
 sources f s (Fired ks) = []
+sources f s Step = []
 
 -- a slope is in the width, if there is one
 abbrev pub slope_fits : Option Fraction → Bool
@@ -82,18 +86,17 @@ abbrev pub slope_tests : FlatForm → List ℕ → Table → Table → List Bool
 slope_tests f grades t u fine k [] = []
 slope_tests f grades t u fine k (occ ∷ occs) = slope_test f grades t u fine k occ ++ slope_tests f grades t u fine (suc k) occs
 
+-- the first slope that isn't in the width
+abbrev pub slope_fault : FlatForm → List ℕ → Table → Table → List Bool → Option Fault
+slope_fault f grades t u fine = first_wide (slope_tests f grades t u fine 0 f.occs)
+
 -- the derivative of a place: the occurrence that an active `der` names
 abbrev pub derivative_by : State → List Definer → Option ℕ
 derivative_by s [] = None
 derivative_by s (Der b slope arms ∷ definers) = if is_active (s (AtControl b)) then Some slope else derivative_by s definers
 derivative_by s (definer ∷ definers) = derivative_by s definers
 
--- a place that moves: from a value, with a slope
-pub record Motion : Type 0 where
-  pub from : Fraction
-  pub slope : Fraction
-  pub at : Pos
-
+-- a place that moves
 abbrev pub motion : Pos → Option Value → Option Value → List Motion
 motion at (Some (F from)) (Some (F slope)) = record { from = from; slope = slope; at = at } ∷ []
 motion at _ _ = []
@@ -107,13 +110,3 @@ motion_by start p place (Some slope) = motion place.at (start (AtPlace p)) (star
 abbrev pub motions : State → State → ℕ → List PlaceInfo → List Motion
 motions s start p [] = []
 motions s start p (place ∷ places) = motion_by start p place (derivative_by s place.definers) ++ motions s start (suc p) places
-
-abbrev pub increments : Fraction → List Motion → List Tested
-increments d ms = map (λ (m : Motion). record { number = mul d m.slope; at = m.at }) ms
-
-abbrev pub arrivals : Fraction → List Motion → List Tested
-arrivals d ms = map (λ (m : Motion). record { number = add m.from (mul d m.slope); at = m.at }) ms
-
--- the duration, the new time, and for each place that moves how far it moves, and to where
-abbrev pub move_tests : Fraction → Fraction → List Motion → List Tested
-move_tests t d ms = record { number = d; at = nowhere } ∷ record { number = add t d; at = nowhere } ∷ [] ++ increments d ms ++ arrivals d ms

@@ -1,21 +1,21 @@
--- When an instant solves what is before it, and with which fault.
-use Rattle.std.specs.Prelude.{◌≡◌, ℕ, suc, nat_eq, Bool, true, false, not, ◌&&◌, ◌||◌, List, [], ◌∷◌, slice_get, length, Option, Some, None}
-use Rattle.std.specs.List.{filter}
+-- What the equations of an instant say of it, the values of its sites, its fault, and whether it demands a step.
+use Rattle.std.specs.Prelude.{ℕ, suc, nat_eq, Bool, true, false, not, ◌&&◌, ◌||◌, List, [], ◌∷◌, slice_get, is_some, Option, Some, None}
+use Rattle.std.specs.List.{list_any}
 use Rattle.zl_value.specs.Fraction.{Fraction}
-use Rattle.zl_value.specs.Lists.{listed}
 use Rattle.zl_value.specs.Operators.{Answer, Gives, Faults, Nothing}
-use Rattle.zl_value.specs.Crossings.{fires}
+use Rattle.zl_value.specs.Instants.{Kind, Step, Left}
 use Rattle.zl_value.specs.Times.{nought, holds}
 use Rattle.zl_value.specs.declared.position.Pos.{Pos}
 use Rattle.zl_value.specs.declared.value.Fault.{Fault}
 use Rattle.zl_value.specs.declared.value.Value.{Value}
 use Rattle.zl_meaning.specs.FlatForm.{FlatForm}
-use Rattle.zl_meaning.specs.State.{Node, AtControl, AtReset, AtLater, AtEntry, AtRunning, AtStrong, AtWeak, AtPlace, AtUsed, AtValue, State, nothing, value_in, is_active}
-use Rattle.zl_meaning.specs.History.{Kind, Step, Left, Instant, History, state_of, latest_state, last_active, is_live}
+use Rattle.zl_meaning.specs.State.{Table, Node, AtControl, AtReset, AtLater, AtEntry, AtRunning, AtStrong, AtWeak, AtPlace, AtUsed, AtValue, State, nothing, value_in, is_active}
+use Rattle.zl_meaning.specs.History.{Instant, History, state_of, latest_state, last_active, is_live}
 use Rattle.zl_meaning.specs.Moment.{Mode, AtStep, AtLeft, Moment}
 use Rattle.zl_meaning.specs.Occurrences.{answer}
 use Rattle.zl_meaning.specs.Equation.{turn}
 use Rattle.zl_meaning.specs.declared.block.Auto.{Auto}
+use Rattle.zl_meaning.specs.declared.block.Block.{Block}
 use Rattle.zl_meaning.specs.declared.place.PlaceInfo.{PlaceInfo}
 use Rattle.zl_meaning.specs.declared.occurrence.Form.{Form}
 use Rattle.zl_meaning.specs.declared.occurrence.Form.TheVariants.{If}
@@ -105,17 +105,10 @@ fresh_in f h i (Some site) = was_fresh h i site.block || marks_fresh (state_of i
 abbrev pub site_fresh : FlatForm → History → Instant → ℕ → Bool
 site_fresh f h i n = fresh_in f h i (slice_get f.sites n)
 
--- the sites that fire after the latest instant
-abbrev pub fired_after : FlatForm → History → List ℕ
-fired_after f [] = []
-fired_after f (i ∷ []) = []
-fired_after f (i ∷ j ∷ h) = filter (λ n. fires (site_value f (state_of j) n) (site_value f (state_of i) n) (site_fresh f (j ∷ h) i n)) (listed (length f.sites) 0 (λ n. n))
-
--- an instant solves what is before it: the sites that fired are those of the instant before, and each entry is what its
--- equation says
-pub record Solves (f : FlatForm) (h : History) (passed : Fraction) (i : Instant) : Type 0 where
-  pub fired : i.fired ≡ fired_after f h
-  pub table : i.table ≡ turn f (moment_of f h passed i) i.table
+-- what the equations of instant `i` after `h` say of its entries, if they are as they stand there. An instant is right if
+-- this is what stands there. A flow before it lasted `passed`
+abbrev pub solved : FlatForm → History → Fraction → Instant → Table
+solved f h passed i = turn f (moment_of f h passed i) i.table
 
 -- the fault of an answer
 abbrev pub fault_of : Pos → Answer → Option Fault
@@ -144,3 +137,16 @@ fault_from f m s k (occ ∷ occs) = or_later (own_fault f m s k occ) (fault_from
 -- answer of an operator reads how long the flow before a left end lasted
 abbrev pub instant_fault : FlatForm → History → Instant → Option Fault
 instant_fault f h i = fault_from f (moment_of f h nought i) (state_of i) 0 f.occs
+
+abbrev pub is_hybrid : Option Block → Bool
+is_hybrid None = false
+is_hybrid (Some block) = block.hybrid
+
+-- one of these automata, of which the first has the number `a`, stands in hybrid context and took a transition
+abbrev pub took_move : FlatForm → State → ℕ → List Auto → Bool
+took_move f s a [] = false
+took_move f s a (auto ∷ autos) = is_hybrid (slice_get f.blocks auto.block) && (is_some (s (AtStrong a)) || is_some (s (AtWeak a))) || took_move f s (suc a) autos
+
+-- a step at which this stands demands another one: by a transition, or by an occurrence of `again` that is true
+abbrev pub demands : FlatForm → State → Bool
+demands f s = took_move f s 0 f.automata || list_any (λ k. holds (value_in s k)) f.again

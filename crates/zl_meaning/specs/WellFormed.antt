@@ -5,9 +5,9 @@ use Rattle.zl_value.specs.Script.{IsOfType}
 use Rattle.zl_value.specs.OperatorTypes.{type_of}
 use Rattle.zl_value.specs.declared.value.Ty.{Ty}
 use Rattle.zl_value.specs.declared.value.Ty.TheVariants.{Bool as BoolTy, Float, Zero}
-use Rattle.zl_meaning.specs.FlatForm.{FlatForm, kind_of, place_call, IsWithin}
+use Rattle.zl_meaning.specs.FlatForm.{FlatForm, kind_of, place_call, CalledIn, IsWithin}
 use Rattle.zl_value.specs.Lists.{Has}
-use Rattle.zl_meaning.specs.Uses.{AgainOf, parts, uses_of, is_test}
+use Rattle.zl_meaning.specs.Uses.{Use, TestOf, AgainOf, IsUse, parts}
 use Rattle.zl_meaning.specs.Branches.{InBranch, CallInBranch}
 use Rattle.zl_meaning.specs.declared.block.Block.{Block}
 use Rattle.zl_meaning.specs.declared.block.BlockKind.{BlockKind}
@@ -20,7 +20,7 @@ use Rattle.zl_meaning.specs.declared.place.Definer.TheVariants.{Input, Plain, De
 use Rattle.zl_meaning.specs.declared.place.DerArm.{DerArm}
 use Rattle.zl_meaning.specs.declared.place.PlaceInfo.{PlaceInfo}
 use Rattle.zl_meaning.specs.declared.occurrence.Form.{Form}
-use Rattle.zl_meaning.specs.declared.occurrence.Form.TheVariants.{Lit, Read, Last, Op as Apply, If, Arrow, Pre, Result, Up, Fired}
+use Rattle.zl_meaning.specs.declared.occurrence.Form.TheVariants.{Lit, Read, Last, Op as Apply, If, Arrow, Pre, Result, Up, Fired, Step}
 use Rattle.zl_meaning.specs.declared.occurrence.Occ.{Occ}
 use Rattle.zl_meaning.specs.declared.occurrence.SiteInfo.{SiteInfo}
 
@@ -92,18 +92,37 @@ IsCalled f block (Some call) = (occ : Occ) × (slice_get f.occs call ≡ Some oc
 abbrev pub IsResetArm : FlatForm → ℕ → DerArm → Type 0
 IsResetArm f b arm = Stands f b BoolTy arm.event × Stands f b Float arm.value
 
--- a definer stands in its place's block or inside it, and what it names stands with it and has the place's type
+-- a definer stands in its place's block or inside it, and what it names stands with it and has the place's type; the place
+-- of an input has no call
 abbrev pub IsDefiner : FlatForm → ℕ → PlaceInfo → Definer → Type 0
-IsDefiner f p place (Input n) = (slice_get f.ins n ≡ Some p) × (place.block ≡ 0)
+IsDefiner f p place (Input n) = (slice_get f.ins n ≡ Some p) × (place.block ≡ 0) × (place.call ≡ None)
 IsDefiner f p place (Plain b k) = IsWithin f place.block b × Stands f b place.ty k
 IsDefiner f p place (Der b slope resets) = IsWithin f place.block b × (place.ty ≡ Float) × Stands f b Float slope × AllByRecursion (IsResetArm f b) resets
 IsDefiner f p place (Start b k) = IsWithin f place.block b × Stands f b place.ty k
+
+-- the occurrences that reset arms name
+abbrev pub named_in : List DerArm → List ℕ
+named_in [] = []
+named_in (arm ∷ arms) = arm.event ∷ arm.value ∷ named_in arms
+
+-- the occurrences that a definer names
+abbrev pub named_by : Definer → List ℕ
+named_by (Input n) = []
+named_by (Plain b k) = k ∷ []
+named_by (Der b slope resets) = slope ∷ named_in resets
+named_by (Start b k) = k ∷ []
+
+-- what a definer names stands in the copy of its place's call
+abbrev pub IsInCopy : FlatForm → Option ℕ → Definer → Type 0
+IsInCopy f None definer = Unit {0}
+IsInCopy f (Some call) definer = AllByRecursion (CalledIn f call) (named_by definer)
 
 pub record IsPlace (f : FlatForm) (p : ℕ) (place : PlaceInfo) : Type 0 where
   pub block : place.block < length f.blocks
   pub call : IsCalled f place.block place.call
   pub value : place.ty ≡ Zero → ⊥
   pub definers : AllByRecursion (IsDefiner f p place) place.definers
+  pub copies : AllByRecursion (IsInCopy f place.call) place.definers
 
 -- these occurrences stand in block `b` and have these types
 abbrev pub AllStand : FlatForm → ℕ → List Ty → List ℕ → Type 0
@@ -127,6 +146,7 @@ IsForm f b ty (Pre x) = Stands f b ty x
 IsForm f b ty (Result x) = Stands f b ty x
 IsForm f b ty (Up s) = (site : SiteInfo) × (slice_get f.sites s ≡ Some site) × (site.block ≡ b) × (ty ≡ Zero)
 IsForm f b ty (Fired ks) = AllByRecursion (Stands f b Zero) ks × (ty ≡ BoolTy)
+IsForm f b ty Step = ty ≡ BoolTy
 
 pub record IsOccurrence (f : FlatForm) (occ : Occ) : Type 0 where
   pub block : occ.block < length f.blocks
@@ -144,7 +164,7 @@ pub record IsAgain (f : FlatForm) (k : ℕ) : Type 0 where
   pub is : slice_get f.occs k ≡ Some occ
   pub typed : occ.ty ≡ BoolTy
   pub call : occ.call ≡ None
-  pub only : uses_of f k ≡ AgainOf ∷ []
+  pub only : (of : Use) → IsUse f k of → of ≡ AgainOf
   pub no_occs : (j : ℕ) (other : Occ) → slice_get f.occs j ≡ Some other → other.call ≡ Some k → ⊥
   pub no_places : (p : ℕ) → place_call f p ≡ Some k → ⊥
 
@@ -155,21 +175,9 @@ pub record HasHeights (f : FlatForm) : Type 0 where
   pub parts : (whole k : ℕ) (occ : Occ) → slice_get f.occs whole ≡ Some occ → Has (parts occ.form) k → height k < height whole
   pub calls : (k call : ℕ) (occ : Occ) → slice_get f.occs k ≡ Some occ → occ.call ≡ Some call → height k < height call
 
--- the occurrences that reset arms name
-abbrev pub named_in : List DerArm → List ℕ
-named_in [] = []
-named_in (arm ∷ arms) = arm.event ∷ arm.value ∷ named_in arms
-
--- the occurrences that a definer names
-abbrev pub named_by : Definer → List ℕ
-named_by (Input n) = []
-named_by (Plain b k) = k ∷ []
-named_by (Der b slope resets) = slope ∷ named_in resets
-named_by (Start b k) = k ∷ []
-
 -- no test stands in a branch; a definer and a `last` stand in the branches in which their place does
 pub record KeepsBranches (f : FlatForm) : Type 0 where
-  pub tests : (k whole : ℕ) (side : Bool) → is_test f k ≡ true → InBranch f whole side k → ⊥
+  pub tests : (k whole : ℕ) (side : Bool) → IsUse f k TestOf → InBranch f whole side k → ⊥
   pub definers : (p : ℕ) (place : PlaceInfo) (definer : Definer) (k whole : ℕ) (side : Bool) → slice_get f.places p ≡ Some place → Has place.definers definer → Has (named_by definer) k → InBranch f whole side k → CallInBranch f whole side place.call
   pub lasts : (k p whole : ℕ) (occ : Occ) (side : Bool) → slice_get f.occs k ≡ Some occ → occ.form ≡ Last p → CallInBranch f whole side (place_call f p) → InBranch f whole side k
 

@@ -26,16 +26,38 @@ pub mod WaitingByReset
 pub mod WaitingByHistory
 pub mod IncrementTooWide
 pub mod SlopeTooWide
+pub mod BlankArmHoldsNothing
+pub mod BlankBlockOfInit
+pub mod BlankChoice
+pub mod BlankResetBody
+pub mod StrongContinue
+pub mod GuardResetByAWeakThen
+pub mod DiscreteAutomaton
+pub mod UntakenBranchFault
+pub mod IncrementsBeforeValues
+pub mod StepsAlone
+pub mod DefinerOutsideItsCopy
+pub mod DefinerOutsideABranch
+pub mod NameInACopyOfNoCall
+pub mod UpOfAnArm
+pub mod NameOfASquare
+pub mod DiscreteMain
+pub mod CausalForms
+pub mod CircularForms
 use Rattle.std.specs.Prelude.{◌≡◌, ℕ, Bool, List, [], ◌∷◌, map, ℤ, Option, Some, None}
 use Rattle.zl_value.specs.declared.position.Pos.{Pos}
 use Rattle.zl_value.specs.declared.value.Value.{Value}
 use Rattle.zl_value.specs.declared.value.Ty.{Ty}
 use Rattle.zl_value.specs.declared.script.Script.{Script}
-use Rattle.zl_value.specs.declared.script.Ending.{Ending}
 use Rattle.zl_meaning.specs.FlatForm.{FlatForm}
-use Rattle.zl_meaning.specs.History.{History}
-use Rattle.zl_meaning.specs.Run.{IsRun}
-use Rattle.zl_meaning.specs.Trace.{trace}
+use Rattle.zl_value.specs.Instants.{Step}
+use Rattle.zl_value.specs.Times.{nought}
+use Rattle.zl_value.specs.Traces.{HasTrace as HasTraceOf}
+use Rattle.zl_meaning.specs.State.{Table}
+use Rattle.zl_meaning.specs.History.{Instant}
+use Rattle.zl_meaning.specs.Solves.{solved}
+use Rattle.zl_meaning.specs.System.{system_of}
+use Rattle.zl_meaning.specs.Trace.{outputs}
 use Rattle.zl_meaning.specs.declared.block.Block.{Block}
 use Rattle.zl_meaning.specs.declared.block.BlockKind.{BlockKind}
 use Rattle.zl_meaning.specs.declared.place.Definer.{Definer}
@@ -64,8 +86,15 @@ abbrev pub reset_arm : ℕ → ℕ → DerArm
 reset_arm event value = record { event = event; value = value }
 
 -- the form has a run with the script, and this is printed of it
-pub record HasTrace (f : FlatForm) (grades : List ℕ) (names : List (List ℕ)) (script : Script) (text : List ℕ) : Type 0 where
-  pub history : History
-  pub ending : Ending
-  pub run : IsRun f grades script history ending
-  pub trace : trace f names history ending ≡ text
+abbrev pub HasTrace : FlatForm → List ℕ → List (List ℕ) → Script → List ℕ → Type 0
+HasTrace f grades names script text = HasTraceOf (system_of f grades) (outputs f names) script text
+
+-- the first step of a run, where this stands
+abbrev pub first_step : Table → Instant
+first_step table = record { kind = Step; time = nought; inputs = []; fired = []; table = table }
+
+-- two different tables stand at the first step
+pub record HasTwoInstants (f : FlatForm) (one other : Table) : Type 0 where
+  pub one_solves : one ≡ solved f [] nought (first_step one)
+  pub other_solves : other ≡ solved f [] nought (first_step other)
+  pub differ : one ≡ other → ⊥

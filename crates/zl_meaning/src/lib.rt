@@ -6,9 +6,11 @@ mod flat;
 pub mod laws;
 mod occurrence;
 mod place;
+mod ranks;
 pub mod worked;
 
 pub use block::{Auto, AutoMove, Block, BlockKind, Choice};
 pub use flat::Flat;
 pub use occurrence::{Form, Occ, SiteInfo};
 pub use place::{Definer, DerArm, PlaceInfo};
+pub use ranks::Ranks;

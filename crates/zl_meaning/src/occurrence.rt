@@ -21,6 +21,8 @@ pub enum Form {
     Up(u32),
     /// At a step: one of these holds. It is an event that is tested.
     Fired(Sequence<u32>),
+    /// True at a step, false at a left end and in a flow. No program has it; a pass that takes blocks away makes it.
+    Step,
 }
 
 /// A construct at its place in one copy of a declaration's body.

@@ -26,6 +26,24 @@ ghost use Rattle.zl_meaning.specs.Worked.WaitingByReset.{WaitingByResetRuns};
 ghost use Rattle.zl_meaning.specs.Worked.WaitingByHistory.{WaitingByHistoryRuns};
 ghost use Rattle.zl_meaning.specs.Worked.IncrementTooWide.{IncrementTooWideRuns};
 ghost use Rattle.zl_meaning.specs.Worked.SlopeTooWide.{SlopeTooWideRuns};
+ghost use Rattle.zl_meaning.specs.Worked.BlankArmHoldsNothing.{BlankArmHoldsNothingRuns};
+ghost use Rattle.zl_meaning.specs.Worked.BlankBlockOfInit.{BlankBlockOfInitRuns};
+ghost use Rattle.zl_meaning.specs.Worked.BlankChoice.{BlankChoiceRuns};
+ghost use Rattle.zl_meaning.specs.Worked.BlankResetBody.{BlankResetBodyRuns};
+ghost use Rattle.zl_meaning.specs.Worked.StrongContinue.{StrongContinueRuns};
+ghost use Rattle.zl_meaning.specs.Worked.GuardResetByAWeakThen.{GuardResetByAWeakThenRuns};
+ghost use Rattle.zl_meaning.specs.Worked.DiscreteAutomaton.{DiscreteAutomatonRuns};
+ghost use Rattle.zl_meaning.specs.Worked.UntakenBranchFault.{UntakenBranchFaultRuns};
+ghost use Rattle.zl_meaning.specs.Worked.IncrementsBeforeValues.{IncrementsBeforeValuesRuns};
+ghost use Rattle.zl_meaning.specs.Worked.DefinerOutsideItsCopy.{DefinerOutsideItsCopyIsRefused, DefinerOutsideItsCopyIsTwo};
+ghost use Rattle.zl_meaning.specs.Worked.DefinerOutsideABranch.{DefinerOutsideABranchIsRefused, DefinerOutsideABranchIsTwo};
+ghost use Rattle.zl_meaning.specs.Worked.NameInACopyOfNoCall.{NameInACopyOfNoCallIsRefused};
+ghost use Rattle.zl_meaning.specs.Worked.StepsAlone.{StepsAloneRuns};
+ghost use Rattle.zl_meaning.specs.Worked.UpOfAnArm.{UpOfAnArmKeepsGrades};
+ghost use Rattle.zl_meaning.specs.Worked.NameOfASquare.{NameOfASquareKeepsGrades};
+ghost use Rattle.zl_meaning.specs.Worked.DiscreteMain.{DiscreteMainKeepsNoGrades};
+ghost use Rattle.zl_meaning.specs.Worked.CausalForms.{DerivativeOfItselfIsCausal, FeedbackIsCausal, PreOfItselfIsCausal, UntilOfItsBodyIsCausal};
+ghost use Rattle.zl_meaning.specs.Worked.CircularForms.{CallInItsBranchIsCircular, LastLeadsBackIsCircular, UnlessOfItsBodyIsCircular};
 
 /// A variable with slope one.
 pub fn ramp()
@@ -162,6 +180,56 @@ pub fn slope_too_wide()
     ensures { SlopeTooWideRuns }
 {}
 
+/// An arm whose test has no value is blank, and a variable that it would define has no value: it isn't held.
+pub fn blank_arm_holds_nothing()
+    ensures { BlankArmHoldsNothingRuns }
+{}
+
+/// Where the block of an `init` is blank, `last` of that variable has no value.
+pub fn blank_block_of_init()
+    ensures { BlankBlockOfInitRuns }
+{}
+
+/// A test without a value leaves all bodies of its choice blank, `else` too.
+pub fn blank_choice()
+    ensures { BlankChoiceRuns }
+{}
+
+/// A `reset` whose test has no value leaves its body blank.
+pub fn blank_reset_body()
+    ensures { BlankResetBodyRuns }
+{}
+
+/// A strong transition by `continue`: the target goes on from what it held.
+pub fn strong_continue()
+    ensures { StrongContinueRuns }
+{}
+
+/// A weak transition by `then` resets the guard of its target too.
+pub fn guard_reset_by_a_weak_then()
+    ensures { GuardResetByAWeakThenRuns }
+{}
+
+/// An automaton in discrete context moves once at each of its activations, and demands no step.
+pub fn discrete_automaton()
+    ensures { DiscreteAutomatonRuns }
+{}
+
+/// A branch that isn't taken isn't evaluated, and has no fault.
+pub fn untaken_branch_fault()
+    ensures { UntakenBranchFaultRuns }
+{}
+
+/// All increments are tested before all new values: the second increment is the fault, not the first value.
+pub fn increments_before_values()
+    ensures { IncrementsBeforeValuesRuns }
+{}
+
+/// What tells steps is true at a step and false at a left end.
+pub fn steps_alone()
+    ensures { StepsAloneRuns }
+{}
+
 /// No run fires the site: it comes from zero, not from below.
 pub fn site_at_zero_stays()
     ensures { SiteAtZeroStays }
@@ -175,4 +243,79 @@ pub fn both_crossings_fire()
 /// No run goes on before the second step is made.
 pub fn cascade_is_due()
     ensures { CascadeIsDue }
+{}
+
+/// What a definer names has to stand in the copy of its place's call.
+pub fn definer_outside_its_copy_is_refused()
+    ensures { DefinerOutsideItsCopyIsRefused }
+{}
+
+/// Without that, two instants solve one history.
+pub fn definer_outside_its_copy_is_two()
+    ensures { DefinerOutsideItsCopyIsTwo }
+{}
+
+/// The same where the call stands in a branch.
+pub fn definer_outside_a_branch_is_refused()
+    ensures { DefinerOutsideABranchIsRefused }
+{}
+
+/// Without that, two instants solve one history.
+pub fn definer_outside_a_branch_is_two()
+    ensures { DefinerOutsideABranchIsTwo }
+{}
+
+/// What expansion makes has names in the copies of calls alone.
+pub fn name_in_a_copy_of_no_call_is_refused()
+    ensures { NameInACopyOfNoCallIsRefused }
+{}
+
+/// What an arm gives isn't graded, and the variable that it defines keeps its grade all the same.
+pub fn up_of_an_arm_keeps_grades()
+    ensures { UpOfAnArmKeepsGrades }
+{}
+
+/// The square of a variable that moves, and a name of it, keep their grades, which are 2.
+pub fn name_of_a_square_keeps_grades()
+    ensures { NameOfASquareKeepsGrades }
+{}
+
+/// The operators of a discrete main are evaluated in flows and aren't graded, so it keeps no grades.
+pub fn discrete_main_keeps_no_grades()
+    ensures { DiscreteMainKeepsNoGrades }
+{}
+
+/// `pre` under `->` of the variable that they define gives no dependency.
+pub fn pre_of_itself_is_causal()
+    ensures { PreOfItselfIsCausal }
+{}
+
+/// A derivative may read its own variable.
+pub fn derivative_of_itself_is_causal()
+    ensures { DerivativeOfItselfIsCausal }
+{}
+
+/// An `until` test may read what its body defines.
+pub fn until_of_its_body_is_causal()
+    ensures { UntilOfItsBodyIsCausal }
+{}
+
+/// Two copies of declarations may feed back, where a derivative stands between.
+pub fn feedback_is_causal()
+    ensures { FeedbackIsCausal }
+{}
+
+/// An `unless` test that reads what its body defines goes round.
+pub fn unless_of_its_body_is_circular()
+    ensures { UnlessOfItsBodyIsCircular }
+{}
+
+/// So do `init` values that lead back by `last`.
+pub fn last_leads_back_is_circular()
+    ensures { LastLeadsBackIsCircular }
+{}
+
+/// And a variable of what is called in a branch, where the condition reads it.
+pub fn call_in_its_branch_is_circular()
+    ensures { CallInItsBranchIsCircular }
 {}

@@ -24,7 +24,7 @@ form = record {
       ∷ block (Some 1) (Arm 0 0) false
       ∷ [];
   places =
-      place 0 None Float 0 (at 3 7) (Der 0 1 (reset_arm 24 7 ∷ []) ∷ Start 0 2 ∷ [])
+      place 0 None Float 3 (at 3 7) (Der 0 1 (reset_arm 24 7 ∷ []) ∷ Start 0 2 ∷ [])
       ∷ place 0 None Int 1 (at 4 12) (Start 0 8 ∷ Plain 2 13 ∷ [])
       ∷ place 2 (Some 13) Int 1 (at 1 32) (Plain 2 16 ∷ [])
       ∷ [];
@@ -76,7 +76,7 @@ abbrev pub grades : List ℕ
 grades = 0 ∷ 0 ∷ 3 ∷ 3 ∷ 1 ∷ 1 ∷ 0 ∷ 3 ∷ 3 ∷ 3 ∷ 1 ∷ 1 ∷ 0 ∷ 3 ∷ 3 ∷ 3 ∷ 3 ∷ 3 ∷ 3 ∷ 3 ∷ 3 ∷ 1 ∷ 1 ∷ 0 ∷ 3 ∷ 3 ∷ 3 ∷ 3 ∷ []
 
 abbrev pub names : List (List ℕ)
-names = codes "t" ∷ codes "n" ∷ []
+names = codes "count" ∷ codes "n" ∷ codes "main" ∷ codes "t" ∷ []
 
 abbrev pub script : Script
 script = record { horizon = over (pos 3) 2; steps = 1000000; lines = [] }

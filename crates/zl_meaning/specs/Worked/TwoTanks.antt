@@ -26,8 +26,8 @@ form = record {
       ∷ block (Some 0) (Body 0 1) true
       ∷ [];
   places =
-      place 0 None Float 0 (at 2 8) (Start 0 2 ∷ Der 2 5 [] ∷ Der 4 12 [] ∷ [])
-      ∷ place 0 None Float 1 (at 2 26) (Start 0 3 ∷ Der 2 7 [] ∷ Der 4 15 [] ∷ [])
+      place 0 None Float 1 (at 2 8) (Start 0 2 ∷ Der 2 5 [] ∷ Der 4 12 [] ∷ [])
+      ∷ place 0 None Float 2 (at 2 26) (Start 0 3 ∷ Der 2 7 [] ∷ Der 4 15 [] ∷ [])
       ∷ [];
   occs =
       occ 0 None Float (at 1 22) (Read 0)
@@ -70,7 +70,7 @@ abbrev pub grades : List ℕ
 grades = 1 ∷ 1 ∷ 3 ∷ 3 ∷ 0 ∷ 0 ∷ 0 ∷ 0 ∷ 0 ∷ 3 ∷ 1 ∷ 1 ∷ 0 ∷ 0 ∷ 0 ∷ 0 ∷ 0 ∷ 3 ∷ 1 ∷ 1 ∷ 3 ∷ 3 ∷ []
 
 abbrev pub names : List (List ℕ)
-names = codes "x1" ∷ codes "x2" ∷ []
+names = codes "main" ∷ codes "x1" ∷ codes "x2" ∷ codes "A" ∷ codes "B" ∷ []
 
 abbrev pub script : Script
 script = record { horizon = whole (pos 10); steps = 7; lines = [] }

@@ -28,7 +28,7 @@ form = record {
       ∷ block (Some 0) (Body 0 1) true
       ∷ [];
   places =
-      place 0 None Float 0 (at 1 37) (Der 0 1 (reset_arm 23 7 ∷ []) ∷ Start 0 2 ∷ [])
+      place 0 None Float 2 (at 1 37) (Der 0 1 (reset_arm 23 7 ∷ []) ∷ Start 0 2 ∷ [])
       ∷ place 0 None Float 1 (at 1 89) (Start 0 8 ∷ Der 4 9 [] ∷ Der 6 14 [] ∷ [])
       ∷ [];
   occs =
@@ -80,7 +80,7 @@ abbrev pub grades : List ℕ
 grades = 1 ∷ 0 ∷ 3 ∷ 3 ∷ 1 ∷ 1 ∷ 0 ∷ 3 ∷ 3 ∷ 0 ∷ 3 ∷ 1 ∷ 1 ∷ 0 ∷ 0 ∷ 3 ∷ 1 ∷ 1 ∷ 0 ∷ 3 ∷ 1 ∷ 1 ∷ 0 ∷ 3 ∷ 3 ∷ 3 ∷ 3 ∷ []
 
 abbrev pub names : List (List ℕ)
-names = codes "t" ∷ codes "x" ∷ []
+names = codes "main" ∷ codes "x" ∷ codes "t" ∷ codes "A" ∷ codes "P" ∷ codes "Q" ∷ codes "B" ∷ []
 
 abbrev pub script : Script
 script = record { horizon = whole (pos 3); steps = 1000000; lines = [] }

@@ -1,11 +1,11 @@
 use Rattle.std.specs.Prelude.{◌∷◌, [], pos}
 use Rattle.std.proofs.Common.{lit<, refl, inl, inr}
 use Rattle.zl_value.specs.Fraction.{over}
-use Rattle.zl_value.specs.Times.{nought, unit}
 use Rattle.zl_value.specs.declared.script.Ending.TheVariants.{Horizon}
 use Rattle.zl_meaning.specs.History.{Instant}
-use Rattle.zl_meaning.specs.Run.{StepAfter, LeftAfter}
-use Rattle.zl_meaning.proofs.Compute.{computing, step_on, left_on, moment_on, fine_on}
+use Rattle.zl_meaning.specs.System.{system_of}
+use Rattle.zl_value.specs.Runs.{StepAfter, LeftAfter}
+use Rattle.zl_meaning.proofs.Compute.{computing, step_on, left_on, flow_on}
 use Rattle.zl_meaning.specs.Worked.Ramp.{form, grades, script, RampRuns}
 use Rattle.zl_meaning.proofs.worked.ramp.Goals as goal
 
@@ -15,25 +15,27 @@ i0 = step_on form script [] 4
 abbrev i1 : Instant
 i1 = left_on form (i0 ∷ []) (over (pos 3) 2) 4
 
-s0 : StepAfter form script [] i0
+s0 : StepAfter (system_of form grades) script [] i0
 unfolding computing
-s0 = record { due = refl; kind = refl; time = refl; inputs = refl; solves = record { fired = refl; table = refl } }
+s0 = record { due = refl; kind = refl; time = refl; inputs = refl; fired = refl; solves = refl }
 
-s1 : LeftAfter form grades script [] i0 i1
+s1 : LeftAfter (system_of form grades) script [] i0 i1
 unfolding computing
 s1 = record {
-  at = moment_on form [] i0 8;
+  flow = flow_on form [] i0 8;
   duration = over (pos 3) 2;
   move = record {
-    flow = record { due = refl; flow = record { table = λ s r l. refl }; fine = fine_on form (moment_on form [] i0 8 nought) (moment_on form [] i0 8 unit) 8; solved = refl };
-    slopes = refl;
+    flow = record { due = refl; solves = λ s r l. refl };
+    right = refl;
+    whole = refl;
     lasts = record { reduced = record { above = lit< tt; lowest = refl }; positive = refl; reached = refl; clear = refl; first = λ s r l u. refl };
   };
   fits = refl;
   kind = refl;
   time = refl;
   inputs = refl;
-  solves = record { fired = refl; table = refl };
+  fired = refl;
+  solves = refl;
 }
 
 pub row : RampRuns

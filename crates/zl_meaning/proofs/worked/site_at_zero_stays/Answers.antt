@@ -2,7 +2,7 @@ use Rattle.std.specs.Prelude.{◌<◌, ◌∷◌, [], ◌≡◌, ℕ, get_or, na
 use Rattle.std.proofs.Common.{lit<, ap}
 use Rattle.zl_meaning.specs.State.{Node, AtControl, AtReset, AtLater, AtEntry, AtRunning, AtStrong, AtWeak, AtPlace, AtUsed, AtValue}
 use Rattle.zl_meaning.specs.Reading.{ReadsControl, ReadsReset, ReadsLater, ReadsPlace, ReadsUsed, ReadsValue, Reads, HasNodeRanks}
-use Rattle.zl_meaning.proofs.Ranks.{numbered}
+use Rattle.zl_meaning.proofs.NodeRanks.{numbered}
 use Rattle.zl_meaning.proofs.OneTrace.{one_trace}
 use Rattle.zl_meaning.proofs.Compute.{computing}
 use Rattle.zl_meaning.specs.Worked.SiteAtZero.{form, grades, names, script}

@@ -2,13 +2,13 @@ use Rattle.std.specs.Prelude.{◌∷◌, [], pos}
 use Rattle.std.proofs.Common.{lit<, refl, inl, inr, arith}
 use Rattle.std.proofs.lemmas.Int.{ints}
 use Rattle.zl_value.specs.Fraction.{whole}
-use Rattle.zl_value.specs.Times.{nought, unit}
 use Rattle.zl_value.specs.declared.script.Ending.TheVariants.{Horizon}
 use Rattle.zl_meaning.specs.History.{Instant}
-use Rattle.zl_meaning.specs.Run.{StepAfter, LeftAfter}
+use Rattle.zl_meaning.specs.System.{system_of}
+use Rattle.zl_value.specs.Runs.{StepAfter, LeftAfter}
 use Rattle.zl_value.proofs.Ratios.{is_self, is_add, is_sub, is_mul}
 use Rattle.zl_meaning.proofs.Lines.{crossed, negative_is, both, not_false, self}
-use Rattle.zl_meaning.proofs.Compute.{computing, step_on, left_on, moment_on, fine_on}
+use Rattle.zl_meaning.proofs.Compute.{computing, step_on, left_on, flow_on}
 use Rattle.zl_meaning.specs.Worked.StrongTransition.{form, grades, script, StrongTransitionRuns}
 use Rattle.zl_meaning.proofs.worked.strong_transition.Goals as goal
 
@@ -24,34 +24,36 @@ i2 = step_on form script (i1 ∷ i0 ∷ []) 11
 abbrev i3 : Instant
 i3 = step_on form script (i2 ∷ i1 ∷ i0 ∷ []) 11
 
-s0 : StepAfter form script [] i0
+s0 : StepAfter (system_of form grades) script [] i0
 unfolding computing
-s0 = record { due = refl; kind = refl; time = refl; inputs = refl; solves = record { fired = refl; table = refl } }
+s0 = record { due = refl; kind = refl; time = refl; inputs = refl; fired = refl; solves = refl }
 
-s1 : LeftAfter form grades script [] i0 i1
+s1 : LeftAfter (system_of form grades) script [] i0 i1
 unfolding computing
 s1 = record {
-  at = moment_on form [] i0 8;
+  flow = flow_on form [] i0 8;
   duration = whole (pos 1);
   move = record {
-    flow = record { due = refl; flow = record { table = λ s r l. refl }; fine = fine_on form (moment_on form [] i0 8 nought) (moment_on form [] i0 8 unit) 8; solved = refl };
-    slopes = refl;
+    flow = record { due = refl; solves = λ s r l. refl };
+    right = refl;
+    whole = refl;
     lasts = record { reduced = record { above = lit< tt; lowest = refl }; positive = refl; reached = refl; clear = refl; first = λ s r l u. both (negative_is (is_sub (is_add (self (whole (pos 0)) (lit< tt)) (is_mul (is_self s r.above) (self (whole (pos 1)) (lit< tt)))) (self (whole (pos 1)) (lit< tt))) (not_false _ (λ w. omega (arith, ints, w, l, crossed s (whole (pos 1)) u, r.above)))) (refl) };
   };
   fits = refl;
   kind = refl;
   time = refl;
   inputs = refl;
-  solves = record { fired = refl; table = refl };
+  fired = refl;
+  solves = refl;
 }
 
-s2 : StepAfter form script (i1 ∷ i0 ∷ []) i2
+s2 : StepAfter (system_of form grades) script (i1 ∷ i0 ∷ []) i2
 unfolding computing
-s2 = record { due = refl; kind = refl; time = refl; inputs = refl; solves = record { fired = refl; table = refl } }
+s2 = record { due = refl; kind = refl; time = refl; inputs = refl; fired = refl; solves = refl }
 
-s3 : StepAfter form script (i2 ∷ i1 ∷ i0 ∷ []) i3
+s3 : StepAfter (system_of form grades) script (i2 ∷ i1 ∷ i0 ∷ []) i3
 unfolding computing
-s3 = record { due = refl; kind = refl; time = refl; inputs = refl; solves = record { fired = refl; table = refl } }
+s3 = record { due = refl; kind = refl; time = refl; inputs = refl; fired = refl; solves = refl }
 
 pub row : StrongTransitionRuns
 unfolding computing

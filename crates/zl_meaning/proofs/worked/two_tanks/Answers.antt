@@ -2,13 +2,13 @@ use Rattle.std.specs.Prelude.{◌∷◌, [], pos, negsuc}
 use Rattle.std.proofs.Common.{lit<, refl, inl, inr, arith}
 use Rattle.std.proofs.lemmas.Int.{ints}
 use Rattle.zl_value.specs.Fraction.{whole, over}
-use Rattle.zl_value.specs.Times.{nought, unit}
 use Rattle.zl_value.specs.declared.script.Ending.TheVariants.{Bound}
 use Rattle.zl_meaning.specs.History.{Instant}
-use Rattle.zl_meaning.specs.Run.{StepAfter, LeftAfter}
+use Rattle.zl_meaning.specs.System.{system_of}
+use Rattle.zl_value.specs.Runs.{StepAfter, LeftAfter}
 use Rattle.zl_value.proofs.Ratios.{is_self, is_add, is_mul, is_neg}
 use Rattle.zl_meaning.proofs.Lines.{crossed, negative_is, both, not_false, self}
-use Rattle.zl_meaning.proofs.Compute.{computing, step_on, left_on, moment_on, fine_on}
+use Rattle.zl_meaning.proofs.Compute.{computing, step_on, left_on, flow_on}
 use Rattle.zl_meaning.specs.Worked.TwoTanks.{form, grades, script, TwoTanksRuns}
 use Rattle.zl_meaning.proofs.worked.two_tanks.Goals as goal
 
@@ -45,100 +45,108 @@ i9 = step_on form script (i8 ∷ i7 ∷ i6 ∷ i5 ∷ i4 ∷ i3 ∷ i2 ∷ i1 �
 abbrev i10 : Instant
 i10 = left_on form (i9 ∷ i8 ∷ i7 ∷ i6 ∷ i5 ∷ i4 ∷ i3 ∷ i2 ∷ i1 ∷ i0 ∷ []) (over (pos 1) 4) 7
 
-s0 : StepAfter form script [] i0
+s0 : StepAfter (system_of form grades) script [] i0
 unfolding computing
-s0 = record { due = refl; kind = refl; time = refl; inputs = refl; solves = record { fired = refl; table = refl } }
+s0 = record { due = refl; kind = refl; time = refl; inputs = refl; fired = refl; solves = refl }
 
-s1 : LeftAfter form grades script [] i0 i1
+s1 : LeftAfter (system_of form grades) script [] i0 i1
 unfolding computing
 s1 = record {
-  at = moment_on form [] i0 8;
+  flow = flow_on form [] i0 8;
   duration = whole (pos 2);
   move = record {
-    flow = record { due = refl; flow = record { table = λ s r l. refl }; fine = fine_on form (moment_on form [] i0 8 nought) (moment_on form [] i0 8 unit) 8; solved = refl };
-    slopes = refl;
+    flow = record { due = refl; solves = λ s r l. refl };
+    right = refl;
+    whole = refl;
     lasts = record { reduced = record { above = lit< tt; lowest = refl }; positive = refl; reached = refl; clear = refl; first = λ s r l u. both (negative_is (is_neg (is_add (self (whole (pos 1)) (lit< tt)) (is_mul (is_self s r.above) (self (over (negsuc 0) 2) (lit< tt))))) (not_false _ (λ w. omega (arith, ints, w, l, crossed s (whole (pos 2)) u, r.above)))) (refl) };
   };
   fits = refl;
   kind = refl;
   time = refl;
   inputs = refl;
-  solves = record { fired = refl; table = refl };
+  fired = refl;
+  solves = refl;
 }
 
-s2 : StepAfter form script (i1 ∷ i0 ∷ []) i2
+s2 : StepAfter (system_of form grades) script (i1 ∷ i0 ∷ []) i2
 unfolding computing
-s2 = record { due = refl; kind = refl; time = refl; inputs = refl; solves = record { fired = refl; table = refl } }
+s2 = record { due = refl; kind = refl; time = refl; inputs = refl; fired = refl; solves = refl }
 
-s3 : StepAfter form script (i2 ∷ i1 ∷ i0 ∷ []) i3
+s3 : StepAfter (system_of form grades) script (i2 ∷ i1 ∷ i0 ∷ []) i3
 unfolding computing
-s3 = record { due = refl; kind = refl; time = refl; inputs = refl; solves = record { fired = refl; table = refl } }
+s3 = record { due = refl; kind = refl; time = refl; inputs = refl; fired = refl; solves = refl }
 
-s4 : LeftAfter form grades script (i2 ∷ i1 ∷ i0 ∷ []) i3 i4
+s4 : LeftAfter (system_of form grades) script (i2 ∷ i1 ∷ i0 ∷ []) i3 i4
 unfolding computing
 s4 = record {
-  at = moment_on form (i2 ∷ i1 ∷ i0 ∷ []) i3 8;
+  flow = flow_on form (i2 ∷ i1 ∷ i0 ∷ []) i3 8;
   duration = whole (pos 1);
   move = record {
-    flow = record { due = refl; flow = record { table = λ s r l. refl }; fine = fine_on form (moment_on form (i2 ∷ i1 ∷ i0 ∷ []) i3 8 nought) (moment_on form (i2 ∷ i1 ∷ i0 ∷ []) i3 8 unit) 8; solved = refl };
-    slopes = refl;
+    flow = record { due = refl; solves = λ s r l. refl };
+    right = refl;
+    whole = refl;
     lasts = record { reduced = record { above = lit< tt; lowest = refl }; positive = refl; reached = refl; clear = refl; first = λ s r l u. both (negative_is (is_neg (is_add (self (over (pos 1) 2) (lit< tt)) (is_mul (is_self s r.above) (self (over (negsuc 0) 2) (lit< tt))))) (not_false _ (λ w. omega (arith, ints, w, l, crossed s (whole (pos 1)) u, r.above)))) (refl) };
   };
   fits = refl;
   kind = refl;
   time = refl;
   inputs = refl;
-  solves = record { fired = refl; table = refl };
+  fired = refl;
+  solves = refl;
 }
 
-s5 : StepAfter form script (i4 ∷ i3 ∷ i2 ∷ i1 ∷ i0 ∷ []) i5
+s5 : StepAfter (system_of form grades) script (i4 ∷ i3 ∷ i2 ∷ i1 ∷ i0 ∷ []) i5
 unfolding computing
-s5 = record { due = refl; kind = refl; time = refl; inputs = refl; solves = record { fired = refl; table = refl } }
+s5 = record { due = refl; kind = refl; time = refl; inputs = refl; fired = refl; solves = refl }
 
-s6 : StepAfter form script (i5 ∷ i4 ∷ i3 ∷ i2 ∷ i1 ∷ i0 ∷ []) i6
+s6 : StepAfter (system_of form grades) script (i5 ∷ i4 ∷ i3 ∷ i2 ∷ i1 ∷ i0 ∷ []) i6
 unfolding computing
-s6 = record { due = refl; kind = refl; time = refl; inputs = refl; solves = record { fired = refl; table = refl } }
+s6 = record { due = refl; kind = refl; time = refl; inputs = refl; fired = refl; solves = refl }
 
-s7 : LeftAfter form grades script (i5 ∷ i4 ∷ i3 ∷ i2 ∷ i1 ∷ i0 ∷ []) i6 i7
+s7 : LeftAfter (system_of form grades) script (i5 ∷ i4 ∷ i3 ∷ i2 ∷ i1 ∷ i0 ∷ []) i6 i7
 unfolding computing
 s7 = record {
-  at = moment_on form (i5 ∷ i4 ∷ i3 ∷ i2 ∷ i1 ∷ i0 ∷ []) i6 8;
+  flow = flow_on form (i5 ∷ i4 ∷ i3 ∷ i2 ∷ i1 ∷ i0 ∷ []) i6 8;
   duration = over (pos 1) 2;
   move = record {
-    flow = record { due = refl; flow = record { table = λ s r l. refl }; fine = fine_on form (moment_on form (i5 ∷ i4 ∷ i3 ∷ i2 ∷ i1 ∷ i0 ∷ []) i6 8 nought) (moment_on form (i5 ∷ i4 ∷ i3 ∷ i2 ∷ i1 ∷ i0 ∷ []) i6 8 unit) 8; solved = refl };
-    slopes = refl;
+    flow = record { due = refl; solves = λ s r l. refl };
+    right = refl;
+    whole = refl;
     lasts = record { reduced = record { above = lit< tt; lowest = refl }; positive = refl; reached = refl; clear = refl; first = λ s r l u. both (negative_is (is_neg (is_add (self (over (pos 1) 4) (lit< tt)) (is_mul (is_self s r.above) (self (over (negsuc 0) 2) (lit< tt))))) (not_false _ (λ w. omega (arith, ints, w, l, crossed s (over (pos 1) 2) u, r.above)))) (refl) };
   };
   fits = refl;
   kind = refl;
   time = refl;
   inputs = refl;
-  solves = record { fired = refl; table = refl };
+  fired = refl;
+  solves = refl;
 }
 
-s8 : StepAfter form script (i7 ∷ i6 ∷ i5 ∷ i4 ∷ i3 ∷ i2 ∷ i1 ∷ i0 ∷ []) i8
+s8 : StepAfter (system_of form grades) script (i7 ∷ i6 ∷ i5 ∷ i4 ∷ i3 ∷ i2 ∷ i1 ∷ i0 ∷ []) i8
 unfolding computing
-s8 = record { due = refl; kind = refl; time = refl; inputs = refl; solves = record { fired = refl; table = refl } }
+s8 = record { due = refl; kind = refl; time = refl; inputs = refl; fired = refl; solves = refl }
 
-s9 : StepAfter form script (i8 ∷ i7 ∷ i6 ∷ i5 ∷ i4 ∷ i3 ∷ i2 ∷ i1 ∷ i0 ∷ []) i9
+s9 : StepAfter (system_of form grades) script (i8 ∷ i7 ∷ i6 ∷ i5 ∷ i4 ∷ i3 ∷ i2 ∷ i1 ∷ i0 ∷ []) i9
 unfolding computing
-s9 = record { due = refl; kind = refl; time = refl; inputs = refl; solves = record { fired = refl; table = refl } }
+s9 = record { due = refl; kind = refl; time = refl; inputs = refl; fired = refl; solves = refl }
 
-s10 : LeftAfter form grades script (i8 ∷ i7 ∷ i6 ∷ i5 ∷ i4 ∷ i3 ∷ i2 ∷ i1 ∷ i0 ∷ []) i9 i10
+s10 : LeftAfter (system_of form grades) script (i8 ∷ i7 ∷ i6 ∷ i5 ∷ i4 ∷ i3 ∷ i2 ∷ i1 ∷ i0 ∷ []) i9 i10
 unfolding computing
 s10 = record {
-  at = moment_on form (i8 ∷ i7 ∷ i6 ∷ i5 ∷ i4 ∷ i3 ∷ i2 ∷ i1 ∷ i0 ∷ []) i9 8;
+  flow = flow_on form (i8 ∷ i7 ∷ i6 ∷ i5 ∷ i4 ∷ i3 ∷ i2 ∷ i1 ∷ i0 ∷ []) i9 8;
   duration = over (pos 1) 4;
   move = record {
-    flow = record { due = refl; flow = record { table = λ s r l. refl }; fine = fine_on form (moment_on form (i8 ∷ i7 ∷ i6 ∷ i5 ∷ i4 ∷ i3 ∷ i2 ∷ i1 ∷ i0 ∷ []) i9 8 nought) (moment_on form (i8 ∷ i7 ∷ i6 ∷ i5 ∷ i4 ∷ i3 ∷ i2 ∷ i1 ∷ i0 ∷ []) i9 8 unit) 8; solved = refl };
-    slopes = refl;
+    flow = record { due = refl; solves = λ s r l. refl };
+    right = refl;
+    whole = refl;
     lasts = record { reduced = record { above = lit< tt; lowest = refl }; positive = refl; reached = refl; clear = refl; first = λ s r l u. both (negative_is (is_neg (is_add (self (over (pos 1) 8) (lit< tt)) (is_mul (is_self s r.above) (self (over (negsuc 0) 2) (lit< tt))))) (not_false _ (λ w. omega (arith, ints, w, l, crossed s (over (pos 1) 4) u, r.above)))) (refl) };
   };
   fits = refl;
   kind = refl;
   time = refl;
   inputs = refl;
-  solves = record { fired = refl; table = refl };
+  fired = refl;
+  solves = refl;
 }
 
 pub row : TwoTanksRuns

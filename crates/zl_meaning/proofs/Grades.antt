@@ -1,0 +1,24 @@
+-- A form keeps its grades: what moves in its flows moves as they say.
+pub mod UsesSay
+pub mod OfTypes
+pub mod Typed
+pub mod TypedRuns
+pub mod LineKinds
+pub mod StillFlow
+pub mod UsedFlow
+pub mod Starts
+pub mod GradeTable
+pub mod KeptBy
+pub mod LinearLaw
+pub mod FlowItems
+pub mod StartControls
+pub mod Outer
+pub mod Contexts
+pub mod NeverBlank
+pub mod AtStart
+pub mod UsedAtStart
+pub mod ValuesAtStart
+pub mod PlacesAtStart
+pub mod StartValues
+pub mod Kept
+pub mod OneGrading

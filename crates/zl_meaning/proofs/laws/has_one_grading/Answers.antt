@@ -1,0 +1,5 @@
+use Rattle.zl_meaning.proofs.Grades.OneGrading.{has_one_grading}
+use Rattle.zl_meaning.proofs.laws.has_one_grading.Goals as goal
+
+pub returns : goal.returns
+returns c = has_one_grading
