@@ -24,7 +24,7 @@ use Rattle.zl_flat.specs.Equations.{eqns_walk}
 use Rattle.zl_flat.specs.Expansion.{Scoped, Named, found, with_name, with_sizes, with_callees, param_place, body_copy, instance, decl_copy, MainOf, sizes_of, main_size}
 use Rattle.zl_flat.proofs.WellFormedParts.{AllFrom, each-left, the_places}
 use Rattle.zl_flat.proofs.WellFormedGround.{IsPlaceAt, standing}
-use Rattle.zl_flat.proofs.WellFormedExprTrees.{none-left, none-right}
+use Rattle.zl_flat.proofs.RulesKept.{none-left, none-right}
 use Rattle.zl_flat.proofs.WellFormedDecls.{IsCounted, IsMainKept}
 use Rattle.zl_flat.proofs.WellFormedSizes.{IsSized}
 use Rattle.zl_flat.proofs.WellFormedSizesForm.{AllMake, AreOwnNames, KnowsBuiltIns, built-ins-known, built-ins-still, exprs-make, sized-instance, callees-make}

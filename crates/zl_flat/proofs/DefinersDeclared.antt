@@ -13,7 +13,7 @@ use Rattle.zl_ast.specs.NamesUsed.{Known}
 use Rattle.zl_ast.specs.NamesRules.{twice, is_declared, variables_broken}
 use Rattle.zl_ast.specs.Scopes.{param_ids, first_entries, parameter, variables}
 use Rattle.zl_flat.proofs.WellFormedParts.{all-left, all-right}
-use Rattle.zl_flat.proofs.WellFormedExprTrees.{none-left, none-right, kept-if}
+use Rattle.zl_flat.proofs.RulesKept.{none-left, none-right, kept-if}
 use Rattle.zl_flat.proofs.DefinersNames.{not-both, kept-with_id, has-with_id, in-with_id, in-with_ids, Entry, entry-right, MayShare, LocalsDiffer, absent-share}
 use Rattle.zl_flat.proofs.DefinersOutlines.{IsSound, none-wanted}
 

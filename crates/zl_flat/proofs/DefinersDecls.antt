@@ -29,7 +29,7 @@ use Rattle.zl_flat.specs.Equations.{eqn_walk, eqns_walk}
 use Rattle.zl_flat.specs.Expansion.{Scoped, Named, found, with_name, with_callees, variables_from, argument_definers, input_definers, param_place, body_copy, instance, decl_copy, main_here, main_block, main_parts}
 use Rattle.zl_flat.proofs.WellFormedParts.{AllFrom, each-left, the_places}
 use Rattle.zl_flat.proofs.WellFormedGround.{IsPlaceAt, standing, Sits}
-use Rattle.zl_flat.proofs.WellFormedExprTrees.{none-left, none-right, IsVariable}
+use Rattle.zl_flat.proofs.RulesKept.{none-left, none-right, IsVariable}
 use Rattle.zl_flat.proofs.WellFormedDecls.{Finds, IsCounted}
 use Rattle.zl_flat.proofs.DefinersNames.{has-with_ids, not-both}
 use Rattle.zl_meaning.specs.Single.{is_start}

@@ -25,7 +25,7 @@ use Rattle.zl_flat.specs.Variables.{variable_of, is_first}
 use Rattle.zl_flat.specs.Instances.{Instance, in_body, in_block, inner_block, place_here, occ_here, site_here}
 use Rattle.zl_flat.specs.Expressions.{Walk}
 use Rattle.zl_flat.specs.Equations.{Making, in_turn, Testing, test_all, place_number, place_type, given, derivative, plain_definers, right_roots, StateWalk, states_made, state_names, ArmWalk, arms_made, body_of_choice, ResetWalk, start_definers, MoveWalk, name_made, names_made, crossing, event, tested, plain, resets_made, start_made, der, init, other_made, present, automaton, reset, condition_place, moves_made, state_made, arm_made, body_made}
-use Rattle.zl_flat.proofs.WellFormedExprTrees.{none-right, IsVariable}
+use Rattle.zl_flat.proofs.RulesKept.{none-right, IsVariable}
 use Rattle.zl_flat.proofs.DefinersNames.{or-left, or-right, one-among, has-with_id}
 use Rattle.zl_flat.proofs.DefinersOutlines.{HasEntries, HasName, IsSound, name-left, name-right, name-under, sound-others, names-apart}
 use Rattle.zl_flat.proofs.DefinersDeclared.{not-repeated}

@@ -9,7 +9,7 @@ use Rattle.zl_ast.specs.declared.scope.VarClass.TheVariants as class
 use Rattle.zl_ast.specs.Names.{Violation, broken_if, among, with_id, with_ids, ids_of, strangers}
 use Rattle.zl_ast.specs.NamesDefined.{Outline, entry, is_defined, with_defined, first_places, with_shared, nothing, both, together, after, with_broken, clashing, list_from, free_entries, free_ids, under, StateOutline, state_among, states_among, one_defined, left_outline}
 use Rattle.zl_flat.proofs.WellFormedParts.{all-left, all-right}
-use Rattle.zl_flat.proofs.WellFormedExprTrees.{none-left, none-right, kept-if}
+use Rattle.zl_flat.proofs.RulesKept.{none-left, none-right, kept-if}
 use Rattle.zl_flat.proofs.DefinersNames.{either, not-both, among-split, among-left, among-right, among-one, kept-with_id, has-with_id, kept-with_ids, has-with_ids, Entry, entry-left, entry-right, LocalsDiffer, differ-left, differ-right, differ-across, entry-free, all-free, free-differ, held-entry, entry-known, free-ids, ids-free}
 
 -- the numbers of the names that are defined by `init`, or of those that are defined other than by it

@@ -23,7 +23,7 @@ use Rattle.zl_flat.specs.Instances.{Callee, Instance}
 use Rattle.zl_flat.specs.Expressions.{expr_walk}
 use Rattle.zl_flat.specs.Equations as make
 use Rattle.zl_flat.specs.Equations.{Making, ArmWalk, StateWalk, up_walk, first_at, event_walk, cond_walk, reset_arm_walk, start_walk, move_walk, eqn_walk, arm_walk, body_walk, one_state_walk}
-use Rattle.zl_flat.proofs.WellFormedExprTrees.{IsVariable}
+use Rattle.zl_flat.proofs.RulesKept.{IsVariable}
 use Rattle.zl_flat.proofs.DefinersOutlines.{HasEntries, IsSound, entries-nothing, entries-both, entries-together, entries-list, entries-under, entries-states, entries-left, entries-one, sound-both, sound-after, sound-under, sound-first, sound-others}
 use Rattle.zl_flat.proofs.DefinersExprs.{CalleeDefines, expr-defines}
 use Rattle.zl_flat.proofs.DefinersOwn.{of-both}

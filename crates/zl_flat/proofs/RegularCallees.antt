@@ -22,8 +22,8 @@ use Rattle.zl_flat.specs.declared.size.Size.{Size}
 use Rattle.zl_flat.specs.Sizes.{decl_size}
 use Rattle.zl_flat.specs.Instances.{Callee}
 use Rattle.zl_flat.specs.Expansion.{Scoped, Named, found, with_name, with_callees, decl_copy}
-use Rattle.zl_flat.proofs.WellFormedExprTrees.{none-left, kept-if}
-use Rattle.zl_flat.proofs.WellFormedEqnTrees.{covers-one}
+use Rattle.zl_flat.proofs.RulesKept.{none-left, kept-if}
+use Rattle.zl_flat.proofs.RulesKept.{covers-one}
 use Rattle.zl_flat.proofs.WellFormedDecls.{known_after}
 use Rattle.zl_flat.proofs.WellFormedSizesForm.{AllMake, AreOwnNames, KnowsBuiltIns, built-ins-known, built-ins-still, callees-make}
 use Rattle.zl_flat.proofs.WellFormedCopies.{order-counted}

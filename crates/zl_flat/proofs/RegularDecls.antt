@@ -1,10 +1,13 @@
 -- What the copies of declarations and `main` make stands in its context.
-use Rattle.std.proofs.Common.{◌≡◌, ℕ, ◌+◌, ◌<◌, Bool, true, false, not, ◌&&◌, if◌then◌else◌, List, [], ◌∷◌, ◌++◌, map, length, Option, refl, sym, subst, ◌∙◌, arith}
+use Rattle.std.proofs.Common.{◌≡◌, ℕ, ◌+◌, ◌<◌, Bool, true, false, not, ◌&&◌, if◌then◌else◌, List, [], ◌∷◌, ◌++◌, map, length, Option, Some, None, refl, sym, ap, subst, ◌∙◌, arith}
 use Rattle.std.specs.List.{AllByRecursion}
+use Rattle.std.specs.Option.{option_and_then}
 use Rattle.zl_ast.specs.declared.scope.VarInfo.{VarInfo}
 use Rattle.zl_ast.specs.declared.expr.Expr.{Expr}
 use Rattle.zl_ast.specs.declared.eqn.Eqn.{Eqn}
 use Rattle.zl_ast.specs.declared.program.Decl.{Decl}
+use Rattle.zl_ast.specs.declared.program.DeclKind.{DeclKind}
+use Rattle.zl_ast.specs.declared.program.DeclKind.TheVariants as decl
 use Rattle.zl_ast.specs.declared.program.Param.{Param}
 use Rattle.zl_ast.specs.Names.{among, with_id, with_ids, is_main}
 use Rattle.zl_ast.specs.NamesDefined.{is_defined, eqn_outline, eqns_outline}
@@ -16,7 +19,7 @@ use Rattle.zl_ast.specs.Kinds as kinds
 use Rattle.zl_ast.specs.Kinds.{Declared, expr_misplaced, eqn_misplaced, exprs_misplaced, eqns_misplaced, decl_misplaced, decls_misplaced}
 use Rattle.zl_meaning.specs.FlatForm.{FlatForm}
 use Rattle.zl_meaning.specs.Uses.{DefinerOf}
-use Rattle.zl_meaning.specs.Regular.{Context}
+use Rattle.zl_meaning.specs.Regular.{Context, WithLast, Discrete, Hybrid, context_of_block, body_context, called_context}
 use Rattle.zl_meaning.specs.declared.place.PlaceInfo.{PlaceInfo}
 use Rattle.zl_flat.specs.declared.here.Here.{Here}
 use Rattle.zl_flat.specs.declared.here.Root.{Root}
@@ -29,16 +32,16 @@ use Rattle.zl_flat.specs.Equations.{eqn_walk, eqns_walk}
 use Rattle.zl_flat.specs.Expansion.{Scoped, Named, found, argument_definers, param_place, body_copy, instance, decl_copy}
 use Rattle.zl_flat.proofs.WellFormedParts.{AllFrom, all-left, all-right, each-joined, each-left, each-right, each-some_places, each-some_definers, the_places}
 use Rattle.zl_flat.proofs.WellFormedGround.{IsPlaceAt}
-use Rattle.zl_flat.proofs.WellFormedExprTrees.{none-left, none-right, IsVariable, Covers}
-use Rattle.zl_flat.proofs.WellFormedEqnTrees.{covers-one}
+use Rattle.zl_flat.proofs.RulesKept.{none-left, none-right, IsVariable, Covers}
+use Rattle.zl_flat.proofs.RulesKept.{covers-one}
 use Rattle.zl_flat.proofs.WellFormedSizesForm.{AllMake, AreOwnNames, sized-instance}
 use Rattle.zl_flat.proofs.WellFormedFirsts.{Distinct}
 use Rattle.zl_flat.proofs.WellFormedCopies.{IsInOrder, kept-distinct, order-counted}
-use Rattle.zl_flat.proofs.RegularGround.{flat, Suits, Assigned, assigned-map, assigned-joined, assigned-places, assigned-definers, UsedSo, GivenUsed, lying, regular, Lies, lies-sit, IsRegularIn, AtBlock, BodyIs, IsResult, IsRoot, root-result}
+use Rattle.zl_flat.proofs.RegularGround.{flat, Suits, Assigned, nothing_known, assigned-supposed, LastOutside, assigned-map, assigned-joined, assigned-places, assigned-definers, UsedSo, GivenUsed, lying, regular, Lies, lies-sit, IsRegularIn, AtBlock, BodyIs, IsResult, IsRoot, root-result}
 use Rattle.zl_flat.proofs.RegularUses.{all-map}
 use Rattle.zl_flat.proofs.RegularLift.{decl-lifts}
 use Rattle.zl_flat.proofs.RegularExprs.{WalkIn, AllHold, CopyHolds, CalleeRegular, walk_all-regular, used, body-unused}
-use Rattle.zl_flat.proofs.RegularExprTrees.{KnowsCopies, expr-regular}
+use Rattle.zl_flat.proofs.RegularExprTrees.{KnowsCopies, Recalls, expr-regular}
 use Rattle.zl_flat.proofs.RegularEqns.{PlaceIn, Placed, at-place, MakingIn, in_turn-regular}
 use Rattle.zl_flat.proofs.RegularEqnTrees.{eqn_crossed, all_true, eqns_crossed, and-left, and-right, covers-ids, covers-none, list-named, eqn-regular}
 use Rattle.zl_flat.proofs.RegularEqnTrees as tree
@@ -121,27 +124,32 @@ own-distinct names k declared d h = let o = h.order in subst Distinct (sym o.inf
 
 module _ (f : FlatForm) (base : ℕ) (names : List (List ℕ)) where
   -- what a copy makes in this context, where these are the definers of its parameters
-  pub record BodyRegular (here : Here) (definers : List Given) (s : Counters) (c : kinds.Context) (w : Copy) : Type 0 where
+  pub record BodyRegular (know : (ℕ → Context) → Type 0) (here : Here) (definers : List Given) (s : Counters) (c : kinds.Context) (w : Copy) : Type 0 where
     pub some : 0 < length w.results
     pub results : AllByRecursion (λ (r : Root). IsResult f here.block r.occ) w.results
-    pub assigned : Assigned base s w.parts (λ context. BodyIs f context here c → AllByRecursion (GivenUsed f context) definers → CopyHolds f base context s c w)
+    pub assigned : Assigned base know s w.parts (λ context. BodyIs f context here c → AllByRecursion (GivenUsed f context) definers → CopyHolds f base context s c w)
 
-  -- its results, and its equations, stand in their context
-  results-regular : (i : Instance) (k : Known) (declared : Declared) (knows : KnowsCopies f base names i.callees k declared) (c : kinds.Context) (xs : List Expr) (visible : List ℕ) → Covers i visible → values_uses k xs visible ≡ [] → exprs_misplaced declared xs c ≡ [] →
-      AllByRecursion (WalkIn f base c) (map (expr_walk base names i) xs)
-  results-regular i k declared knows c [] visible v h m = tt
-  results-regular i k declared knows c (x ∷ xs) visible v h m = (
-    expr-regular f base names i k declared knows x c 1 visible v (none-left (expr_uses k x 1 visible) (values_uses k xs visible) h) (none-left (expr_misplaced declared x c) (exprs_misplaced declared xs c) m),
-    results-regular i k declared knows c xs visible v (none-right (expr_uses k x 1 visible) (values_uses k xs visible) h) (none-right (expr_misplaced declared x c) (exprs_misplaced declared xs c) m),
-  )
+  module _ (know : (ℕ → Context) → Type 0) (i : Instance) (k : Known) (declared : Declared) (knows : KnowsCopies f base names i.callees k declared) (calm : Bool) (recalls : calm ≡ false → Recalls f know i) where
+    -- its results, and its equations, stand in their context
+    results-regular : (c : kinds.Context) (xs : List Expr) (visible : List ℕ) → Covers i visible → values_uses k xs visible ≡ [] → exprs_misplaced declared xs c ≡ [] → (calm ≡ true → exprs_misplaced declared xs kinds.combinatorial ≡ []) →
+        AllByRecursion (WalkIn f base know c) (map (expr_walk base names i) xs)
+    results-regular c [] visible v h m q = tt
+    results-regular c (x ∷ xs) visible v h m q = (
+      expr-regular f base know names i k declared knows calm recalls x c 1 visible v (none-left (expr_uses k x 1 visible) (values_uses k xs visible) h) (none-left (expr_misplaced declared x c) (exprs_misplaced declared xs c) m)
+          (λ e. none-left (expr_misplaced declared x kinds.combinatorial) (exprs_misplaced declared xs kinds.combinatorial) (q e)),
+      results-regular c xs visible v (none-right (expr_uses k x 1 visible) (values_uses k xs visible) h) (none-right (expr_misplaced declared x c) (exprs_misplaced declared xs c) m)
+          (λ e. none-right (expr_misplaced declared x kinds.combinatorial) (exprs_misplaced declared xs kinds.combinatorial) (q e)),
+    )
 
-  eqs-regular : (i : Instance) (k : Known) (declared : Declared) (knows : KnowsCopies f base names i.callees k declared) (c : kinds.Context) (es : List Eqn) (visible : List ℕ) → Covers i visible → eqns_uses k es visible ≡ [] → eqns_misplaced declared es c ≡ [] →
-      AllByRecursion (λ o. tree.Named i o.entries) (map eqn_outline es) → eqns_crossed es ≡ true → AllByRecursion (MakingIn f base names i c) (map (eqn_walk base names i) es)
-  eqs-regular i k declared knows c [] visible v h m l t = tt
-  eqs-regular i k declared knows c (e ∷ es) visible v h m l t = (
-    eqn-regular f base names i k declared knows e c visible v (none-left (eqn_uses k e visible) (eqns_uses k es visible) h) (none-left (eqn_misplaced declared e c) (eqns_misplaced declared es c) m) l.0 (and-left (eqn_crossed e) (eqns_crossed es) t),
-    eqs-regular i k declared knows c es visible v (none-right (eqn_uses k e visible) (eqns_uses k es visible) h) (none-right (eqn_misplaced declared e c) (eqns_misplaced declared es c) m) l.1 (and-right (eqn_crossed e) (eqns_crossed es) t),
-  )
+    eqs-regular : (c : kinds.Context) (es : List Eqn) (visible : List ℕ) → Covers i visible → eqns_uses k es visible ≡ [] → eqns_misplaced declared es c ≡ [] → (calm ≡ true → eqns_misplaced declared es kinds.combinatorial ≡ []) →
+        AllByRecursion (λ o. tree.Named i o.entries) (map eqn_outline es) → eqns_crossed es ≡ true → AllByRecursion (MakingIn f base know names i c) (map (eqn_walk base names i) es)
+    eqs-regular c [] visible v h m q l t = tt
+    eqs-regular c (e ∷ es) visible v h m q l t = (
+      eqn-regular f base know names i k declared knows calm recalls e c visible v (none-left (eqn_uses k e visible) (eqns_uses k es visible) h) (none-left (eqn_misplaced declared e c) (eqns_misplaced declared es c) m) l.0 (and-left (eqn_crossed e) (eqns_crossed es) t)
+          (λ g. none-left (eqn_misplaced declared e kinds.combinatorial) (eqns_misplaced declared es kinds.combinatorial) (q g)),
+      eqs-regular c es visible v (none-right (eqn_uses k e visible) (eqns_uses k es visible) h) (none-right (eqn_misplaced declared e c) (eqns_misplaced declared es c) m)
+          (λ g. none-right (eqn_misplaced declared e kinds.combinatorial) (eqns_misplaced declared es kinds.combinatorial) (q g)) l.1 (and-right (eqn_crossed e) (eqns_crossed es) t),
+    )
 
   -- of places nothing is asked
   all-places : (context : ℕ → Context) (n : ℕ) (xs : List PlaceInfo) → AllFrom (λ m (x : PlaceInfo). Unit {0}) n xs
@@ -154,10 +162,11 @@ module _ (f : FlatForm) (base : ℕ) (names : List (List ℕ)) where
   roots-length (w ∷ ws) i here s = let e = roots-length ws i here (after s (expr_walk base names i w here s).parts) in omega (arith, e)
 
   -- a copy of its body stands in its context
-  pub body_copy-regular : (i : Instance) (k : Known) (declared : Declared) (knows : KnowsCopies f base names i.callees k declared) (d : Decl) (definers : List Given) (c : kinds.Context) (visible : List ℕ) → 0 < length d.results → Covers i visible → tree.Named i (eqns_outline d.eqs).entries →
-      values_uses k d.results visible ≡ [] → eqns_uses k d.eqs visible ≡ [] → exprs_misplaced declared d.results c ≡ [] → eqns_misplaced declared d.eqs c ≡ [] → eqns_crossed d.eqs ≡ true →
-      (here : Here) (s : Counters) → AtBlock f here → Suits here.hybrid c → Placed f i here.call → Lies f base s (body_copy base names i d definers here s).parts → BodyRegular here definers s c (body_copy base names i d definers here s)
-  body_copy-regular i k declared knows d definers c visible some v l hr he mr me t here s hb hs placed lies =
+  pub body_copy-regular : (know : (ℕ → Context) → Type 0) (i : Instance) (k : Known) (declared : Declared) (knows : KnowsCopies f base names i.callees k declared) (calm : Bool) → (calm ≡ false → Recalls f know i) → (d : Decl) (definers : List Given) (c : kinds.Context) (visible : List ℕ) → 0 < length d.results → Covers i visible → tree.Named i (eqns_outline d.eqs).entries →
+      values_uses k d.results visible ≡ [] → eqns_uses k d.eqs visible ≡ [] → exprs_misplaced declared d.results c ≡ [] → eqns_misplaced declared d.eqs c ≡ [] →
+      (calm ≡ true → (exprs_misplaced declared d.results kinds.combinatorial ≡ []) × (eqns_misplaced declared d.eqs kinds.combinatorial ≡ [])) → eqns_crossed d.eqs ≡ true →
+      (here : Here) (s : Counters) → AtBlock f here → Suits here.hybrid c → Placed f i here.call → Lies f base s (body_copy base names i d definers here s).parts → BodyRegular know here definers s c (body_copy base names i d definers here s)
+  body_copy-regular know i k declared knows calm recalls d definers c visible some v l hr he mr me q t here s hb hs placed lies =
       let xs = map (param_place i here) d.params in
       let places = some_places xs in
       let given = some_definers definers in
@@ -169,25 +178,25 @@ module _ (f : FlatForm) (base : ℕ) (names : List (List ℕ)) where
       let rest = joined results.parts eqs in
       let behind = each-right (lying f base) s params rest lies in
       let count = roots-length d.results i here u in
-      let a = walk_all-regular f base c (map (expr_walk base names i) d.results) (results-regular i k declared knows c d.results visible v hr mr) here u hb hs (each-left (lying f base) u results.parts eqs behind) in
-      let b = in_turn-regular f base names i c (map (eqn_walk base names i) d.eqs) (eqs-regular i k declared knows c d.eqs visible v he me (list-named i [] [] (map eqn_outline d.eqs) l) t) here w hb hs placed (each-right (lying f base) u results.parts eqs behind) in
+      let a = walk_all-regular f base know c (map (expr_walk base names i) d.results) (results-regular know i k declared knows calm recalls c d.results visible v hr mr (λ e. (q e).0)) here u hb hs (each-left (lying f base) u results.parts eqs behind) in
+      let b = in_turn-regular f base know names i c (map (eqn_walk base names i) d.eqs) (eqs-regular know i k declared knows calm recalls c d.eqs visible v he me (λ e. (q e).1) (list-named i [] [] (map eqn_outline d.eqs) l) t) here w hb hs placed (each-right (lying f base) u results.parts eqs behind) in
       let A : (ℕ → Context) → Type 0 = λ context. AllHold f base context here u c results in
       let B : (ℕ → Context) → Type 0 = λ context. BodyIs f context here c → IsRegularIn f base context w eqs in
       let P : (ℕ → Context) → Type 0 = λ context. Unit {0} in
       record {
         some = omega (arith, count, some);
         results = all-map (λ (r : Root). IsRoot f here r.occ) (λ (r : Root). IsResult f here.block r.occ) (λ r x. root-result f here r.occ x) results.roots a.roots;
-        assigned = assigned-map base s (joined params rest) (λ context. (P context × P context) × (A context × B context))
+        assigned = assigned-map base know s (joined params rest) (λ context. (P context × P context) × (A context × B context))
             (λ context. BodyIs f context here c → AllByRecursion (GivenUsed f context) definers → CopyHolds f base context s c (body_copy base names i d definers here s))
             (λ context g body used. record {
               results = g.1.0.roots;
               parts = each-joined (regular f base context) s params rest
                   (each-joined (regular f base context) s places given (each-some_places (regular f base context) s xs (all-places context s.places xs)) (each-some_definers (regular f base context) (after s places) definers used))
-                  (each-joined (regular f base context) u results.parts eqs (g.1.0.parts (body-unused f base context here c body results.roots)) (g.1.1 body));
+                  (each-joined (regular f base context) u results.parts eqs (g.1.0.parts (body-unused f base know context here c body results.roots)) (g.1.1 body));
             })
-            (assigned-joined base s params rest (λ context. P context × P context) (λ context. A context × B context)
-            (assigned-joined base s places given P P (assigned-places base s xs) (assigned-definers base (after s places) definers))
-            (assigned-joined base u results.parts eqs A B a.assigned b));
+            (assigned-joined base know s params rest (λ context. P context × P context) (λ context. A context × B context)
+            (assigned-joined base know s places given P P (assigned-places base know s xs) (assigned-definers base know (after s places) definers))
+            (assigned-joined base know u results.parts eqs A B a.assigned b));
       }
 
   -- ---- declarations
@@ -208,6 +217,54 @@ module _ (f : FlatForm) (base : ℕ) (names : List (List ℕ)) where
         arguments-used context i here c hb body (n + 1) ps rs p.1 h.1 e.1,
       )
 
+  -- what may be called in combinatorial context
+  abbrev pub is_calm : DeclKind → Bool
+  is_calm decl.Constant = true
+  is_calm decl.Function = true
+  is_calm decl.Node = false
+  is_calm decl.Hybrid = false
+
+  calm-anywhere : (k : DeclKind) → is_calm k ≡ true → kinds.allows_call (Some k) kinds.combinatorial ≡ true
+  calm-anywhere decl.Constant h = refl
+  calm-anywhere decl.Function h = refl
+  calm-anywhere decl.Node h = absurd (cc)
+  calm-anywhere decl.Hybrid h = absurd (cc)
+
+  -- the call of the copy isn't combinatorial with `last`, where the declaration isn't combinatorial
+  abbrev pub copy_known : DeclKind → Option ℕ → (ℕ → Context) → Type 0
+  copy_known k call context = is_calm k ≡ false → (n : ℕ) → call ≡ Some n → context n ≡ WithLast → ⊥
+
+  -- outside calls that is so
+  pub outside-known : (k : DeclKind) (context : ℕ → Context) → copy_known k None context
+  outside-known k context busy n call last = cc
+
+  -- then the places of its variables may stand behind `last`
+  pub last-outside : (k : DeclKind) (call : Option ℕ) (p : ℕ) → is_calm k ≡ false → PlaceIn f call p → (context : ℕ → Context) → copy_known k call context → LastOutside f context p
+  last-outside k call p busy h context known n at = known busy n (sym h.in_copy ∙ sym (ap (option_and_then (λ (x : PlaceInfo). x.call)) h.is) ∙ at)
+
+  -- the body of a call that is combinatorial with `last` is
+  with-last : (context : ℕ → Context) (here : Here) (n : ℕ) → here.call ≡ Some n → context n ≡ WithLast → called_context context (context_of_block here.hybrid) here.call ≡ WithLast
+  with-last context here n call e = ap (called_context context (context_of_block here.hybrid)) call ∙ ap (body_context (context_of_block here.hybrid)) e
+
+  -- it isn't, where the body has a context that such a declaration can have
+  body-known : (k : DeclKind) (here : Here) (c : kinds.Context) → kinds.allows_call (Some k) c ≡ true → (context : ℕ → Context) → BodyIs f context here c → copy_known k here.call context
+  body-known decl.Constant here c ok context body busy n call e = absurd (cc)
+  body-known decl.Function here c ok context body busy n call e = absurd (cc)
+  body-known decl.Node here kinds.combinatorial ok context body busy n call e = absurd (cc)
+  body-known decl.Node here kinds.recalling ok context body busy n call e = absurd (cc)
+  body-known decl.Node here kinds.discrete ok context body busy n call e = differ (sym (with-last context here n call e) ∙ body)
+    where
+      differ : WithLast ≡ Discrete → ⊥
+      differ h = cc
+  body-known decl.Node here kinds.hybrid ok context body busy n call e = absurd (cc)
+  body-known decl.Hybrid here kinds.combinatorial ok context body busy n call e = absurd (cc)
+  body-known decl.Hybrid here kinds.recalling ok context body busy n call e = absurd (cc)
+  body-known decl.Hybrid here kinds.discrete ok context body busy n call e = absurd (cc)
+  body-known decl.Hybrid here kinds.hybrid ok context body busy n call e = differ (sym (with-last context here n call e) ∙ body)
+    where
+      differ : WithLast ≡ Hybrid → ⊥
+      differ h = cc
+
   -- so it can be called where its kind is allowed
   pub decl-regular : (cs : List (Named Callee)) (zs : List (Named Size)) (d : Scoped) (k : Known) (declared : Declared) → IsKept names k declared d → AllMake cs zs → AreOwnNames names zs → KnowsCopies f base names (found cs) k declared → CalleeRegular f base d.decl.kind (decl_copy base names (found cs) (found zs) d)
   unfolding decl_copy
@@ -219,7 +276,9 @@ module _ (f : FlatForm) (base : ℕ) (names : List (List ℕ)) where
       let copied = copy-in_call f base names (found cs) (found zs) d definers here s (sized-instance base names cs zs d here.block s.places make own counted) order (own-distinct names k declared d h) (lies-sit f base s (body_copy base names i d.decl definers here s).parts lies) in
       let a = inside-of names i k d.decl (subst (tree.Named i) order.infos copied.named) h.kept in
       let lifted = decl-lifts declared d.decl c ok h.placed in
-      let b = body_copy-regular i (inside_of k d.decl) declared (knows-inside (found cs) k declared d.decl knows) d.decl definers c a.visible order.some a.covers a.entries a.results a.equations lifted.0 lifted.1 h.crossed here s hb hs copied.placed lies in
+      let know = copy_known d.decl.kind here.call in
+      let b = body_copy-regular know i (inside_of k d.decl) declared (knows-inside (found cs) k declared d.decl knows) (is_calm d.decl.kind) (λ busy id v is. last-outside d.decl.kind here.call v.place busy (copied.placed id v is)) d.decl definers c a.visible order.some a.covers a.entries a.results a.equations lifted.0 lifted.1
+      (λ calm. decl-lifts declared d.decl kinds.combinatorial (calm-anywhere d.decl.kind calm) h.placed) h.crossed here s hb hs copied.placed lies in
       let xs = map (param_place i here) d.decl.params in
       let params = joined (some_places xs) (some_definers definers) in
       let results = exprs_walk base names i d.decl.results here (after s params) in
@@ -229,8 +288,8 @@ module _ (f : FlatForm) (base : ℕ) (names : List (List ℕ)) where
       record {
         some = b.some;
         results = b.results;
-        assigned = assigned-map base s w.parts (λ context. BodyIs f context here c → AllByRecursion (GivenUsed f context) definers → CopyHolds f base context s c w)
+        assigned = assigned-map base nothing_known s w.parts (λ context. BodyIs f context here c → AllByRecursion (GivenUsed f context) definers → CopyHolds f base context s c w)
             (λ context. BodyIs f context here c → AllByRecursion (λ (r : Root). context r.occ ≡ flat c) roots → CopyHolds f base context s c w)
             (λ context g body e. g body (arguments-used context i here c hb body s.places d.decl.params roots places hr e))
-            b.assigned;
+            (assigned-supposed base know s w.parts (λ context. BodyIs f context here c) (λ context. AllByRecursion (GivenUsed f context) definers → CopyHolds f base context s c w) (body-known d.decl.kind here c ok) b.assigned);
       }

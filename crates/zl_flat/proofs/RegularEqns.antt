@@ -25,7 +25,7 @@ use Rattle.zl_flat.specs.Instances.{Instance, in_body, in_block, place_here, occ
 use Rattle.zl_flat.specs.Expressions.{Walk, Walked}
 use Rattle.zl_flat.specs.Equations.{Making, in_turn, Tested, TestedAll, Testing, test_all, place_number, place_type, plain_definers, right_roots, StateMade, StateWalk, StatesMade, ArmWalk, ResetWalk, ResetsMade, StartMade, start_definers, name_made, names_made, crossing, event, tested, plain, resets_made, start_made, der, init}
 use Rattle.zl_flat.proofs.WellFormedParts.{each-nothing, each-joined, each-left, each-right, each-one_place, each-some_definers, occ-first, behind-occ, hidden-first, behind-hidden, site-first, behind-site}
-use Rattle.zl_flat.proofs.WellFormedExprTrees.{none-left, none-right, IsVariable}
+use Rattle.zl_flat.proofs.RulesKept.{none-left, none-right, IsVariable}
 use Rattle.zl_flat.proofs.RegularGround.{flat, Suits, Assigned, assigned-map, assigned-joined, assigned-nothing, assigned-definers, assigned-place, assigned-occ_first, assigned-hidden_first, assigned-site_first, UsedSo, ArmsUsed, DefinerUsed, GivenUsed, TestUsed, SiteRegular, MovesRegular, lying, regular, Lies, IsRegularIn, AtBlock, BodyIs, IsResult, IsRoot, root-result}
 use Rattle.zl_flat.proofs.RegularUses.{Free, Taken, MovesTaken, site-takes, operands-taken}
 use Rattle.zl_flat.proofs.RegularExprs.{Holds, WalkIn, used-by, used, part-used, occ-regular, taken-unused}
@@ -97,18 +97,18 @@ pub record EventHolds (f : FlatForm) (base : ℕ) (context : ℕ → Context) (s
   pub parts : Taken f t.test → IsRegularIn f base context s t.parts
 
 -- a zero-crossing is no event
-pub record CrossingRegular (f : FlatForm) (base : ℕ) (here : Here) (s : Counters) (t : Tested) : Type 0 where
+pub record CrossingRegular (f : FlatForm) (base : ℕ) (know : (ℕ → Context) → Type 0) (here : Here) (s : Counters) (t : Tested) : Type 0 where
   pub crossing : IsResult f here.block t.test
-  pub assigned : Assigned base s t.parts (λ context. EventHolds f base context s t)
+  pub assigned : Assigned base know s t.parts (λ context. EventHolds f base context s t)
 
 -- zero-crossings one behind the other
 pub record CrossingsHold (f : FlatForm) (base : ℕ) (context : ℕ → Context) (s : Counters) (t : TestedAll) : Type 0 where
   pub tests : AllByRecursion (λ k. context k ≡ Hybrid) t.tests
   pub parts : AllByRecursion (Taken f) t.tests → IsRegularIn f base context s t.parts
 
-pub record CrossingsRegular (f : FlatForm) (base : ℕ) (here : Here) (s : Counters) (t : TestedAll) : Type 0 where
+pub record CrossingsRegular (f : FlatForm) (base : ℕ) (know : (ℕ → Context) → Type 0) (here : Here) (s : Counters) (t : TestedAll) : Type 0 where
   pub crossings : AllByRecursion (IsResult f here.block) t.tests
-  pub assigned : Assigned base s t.parts (λ context. CrossingsHold f base context s t)
+  pub assigned : Assigned base know s t.parts (λ context. CrossingsHold f base context s t)
 
 -- occurrence number `k` is an event here
 pub record IsEvent (f : FlatForm) (here : Here) (k : ℕ) : Type 0 where
@@ -119,9 +119,9 @@ pub record IsEvent (f : FlatForm) (here : Here) (k : ℕ) : Type 0 where
   pub event : is_event occ.form ≡ true
 
 -- an event
-pub record EventRegular (f : FlatForm) (base : ℕ) (here : Here) (s : Counters) (t : Tested) : Type 0 where
+pub record EventRegular (f : FlatForm) (base : ℕ) (know : (ℕ → Context) → Type 0) (here : Here) (s : Counters) (t : Tested) : Type 0 where
   pub event : IsEvent f here t.test
-  pub assigned : Assigned base s t.parts (λ context. EventHolds f base context s t)
+  pub assigned : Assigned base know s t.parts (λ context. EventHolds f base context s t)
 
 -- a condition, and an arm
 pub record TestHolds (f : FlatForm) (base : ℕ) (context : ℕ → Context) (s : Counters) (t : Tested) : Type 0 where
@@ -152,9 +152,9 @@ pub record ResetsHold (f : FlatForm) (base : ℕ) (context : ℕ → Context) (s
   pub arms : AllByRecursion (ArmHolds context) r.arms
   pub parts : AllByRecursion (ArmTaken f) r.arms → IsRegularIn f base context s r.parts
 
-pub record ResetsRegular (f : FlatForm) (base : ℕ) (here : Here) (s : Counters) (r : ResetsMade) : Type 0 where
+pub record ResetsRegular (f : FlatForm) (base : ℕ) (know : (ℕ → Context) → Type 0) (here : Here) (s : Counters) (r : ResetsMade) : Type 0 where
   pub arms : AllByRecursion (IsArm f here) r.arms
-  pub assigned : Assigned base s r.parts (λ context. ResetsHold f base context s r)
+  pub assigned : Assigned base know s r.parts (λ context. ResetsHold f base context s r)
 
 -- a state, and the moves of one
 pub record StateHolds (f : FlatForm) (base : ℕ) (context : ℕ → Context) (s : Counters) (m : StateMade) : Type 0 where
@@ -166,26 +166,26 @@ pub record StatesHold (f : FlatForm) (base : ℕ) (context : ℕ → Context) (s
   pub states : AllByRecursion (MovesRegular f context) m.states
   pub parts : AllByRecursion (MovesTaken f) m.states → IsRegularIn f base context s m.parts
 
-module _ (f : FlatForm) (base : ℕ) where
+module _ (f : FlatForm) (base : ℕ) (know : (ℕ → Context) → Type 0) where
   -- what is made in this context where it is to stand
   abbrev pub MakesRegular : kinds.Context → Here → Counters → Parts → Type 0
-  MakesRegular c here s p = Assigned base s p (λ context. BodyIs f context here c → IsRegularIn f base context s p)
+  MakesRegular c here s p = Assigned base know s p (λ context. BodyIs f context here c → IsRegularIn f base context s p)
 
   -- a zero-crossing and an event, in a hybrid block
   abbrev pub CrossingIn : Testing → Type 0
-  CrossingIn t = (here : Here) (s : Counters) → AtBlock f here → here.hybrid ≡ true → Lies f base s (t here s).parts → CrossingRegular f base here s (t here s)
+  CrossingIn t = (here : Here) (s : Counters) → AtBlock f here → here.hybrid ≡ true → Lies f base s (t here s).parts → CrossingRegular f base know here s (t here s)
 
   abbrev pub EventIn : Testing → Type 0
-  EventIn t = (here : Here) (s : Counters) → AtBlock f here → here.hybrid ≡ true → Lies f base s (t here s).parts → EventRegular f base here s (t here s)
+  EventIn t = (here : Here) (s : Counters) → AtBlock f here → here.hybrid ≡ true → Lies f base s (t here s).parts → EventRegular f base know here s (t here s)
 
   -- a condition in this context
   abbrev pub TestingIn : kinds.Context → Testing → Type 0
-  TestingIn c t = (here : Here) (s : Counters) → AtBlock f here → Suits here.hybrid c → Lies f base s (t here s).parts → Assigned base s (t here s).parts (λ context. BodyIs f context here c → TestHolds f base context s (t here s))
+  TestingIn c t = (here : Here) (s : Counters) → AtBlock f here → Suits here.hybrid c → Lies f base s (t here s).parts → Assigned base know s (t here s).parts (λ context. BodyIs f context here c → TestHolds f base context s (t here s))
 
   -- a reset arm
   pub record ResetIn (w : ResetWalk) : Type 0 where
     pub event : EventIn w.event
-    pub value : WalkIn f base kinds.recalling w.value
+    pub value : WalkIn f base know kinds.recalling w.value
 
   module _ (names : List (List ℕ)) (i : Instance) where
     -- an equation, an arm, a state in this context, where the variables have their places
@@ -194,51 +194,51 @@ module _ (f : FlatForm) (base : ℕ) where
 
     abbrev pub ArmIn : kinds.Context → ArmWalk → Type 0
     ArmIn c w = (of number : ℕ) (here : Here) (s : Counters) → AtBlock f here → Suits here.hybrid c → Placed f i here.call → Lies f base s (w of number here s).parts →
-        Assigned base s (w of number here s).parts (λ context. BodyIs f context here c → TestHolds f base context s (w of number here s))
+        Assigned base know s (w of number here s).parts (λ context. BodyIs f context here c → TestHolds f base context s (w of number here s))
 
     abbrev pub StateIn : kinds.Context → StateWalk → Type 0
     StateIn c w = (of number : ℕ) (states : List ℕ) (here : Here) (s : Counters) → AtBlock f here → Suits here.hybrid c → Placed f i here.call → Lies f base s (w.walk of number states here s).parts →
-        Assigned base s (w.walk of number states here s).parts (λ context. BodyIs f context here c → StateHolds f base context s (w.walk of number states here s))
+        Assigned base know s (w.walk of number states here s).parts (λ context. BodyIs f context here c → StateHolds f base context s (w.walk of number states here s))
 
     -- ---- one behind the other
 
     -- equations one behind the other stand in their context
     pub in_turn-regular : (c : kinds.Context) (ms : List Making) → AllByRecursion (MakingIn c) ms → MakingIn c (in_turn ms)
-    in_turn-regular c [] h here s hb hs placed lies = assigned-map base s nothing (λ context. Unit {0}) (λ context. BodyIs f context here c → IsRegularIn f base context s nothing) (λ context g body. each-nothing (regular f base context) s) (assigned-nothing base s)
+    in_turn-regular c [] h here s hb hs placed lies = assigned-map base know s nothing (λ context. Unit {0}) (λ context. BodyIs f context here c → IsRegularIn f base context s nothing) (λ context g body. each-nothing (regular f base context) s) (assigned-nothing base know s)
     in_turn-regular c (m ∷ ms) h here s hb hs placed lies =
         let first = m here s in
         let t = after s first in
         let rest = in_turn ms here t in
         let A : (ℕ → Context) → Type 0 = λ context. BodyIs f context here c → IsRegularIn f base context s first in
         let B : (ℕ → Context) → Type 0 = λ context. BodyIs f context here c → IsRegularIn f base context t rest in
-        assigned-map base s (joined first rest) (λ context. A context × B context) (λ context. BodyIs f context here c → IsRegularIn f base context s (joined first rest))
+        assigned-map base know s (joined first rest) (λ context. A context × B context) (λ context. BodyIs f context here c → IsRegularIn f base context s (joined first rest))
         (λ context g body. each-joined (regular f base context) s first rest (g.0 body) (g.1 body))
-        (assigned-joined base s first rest A B (h.0 here s hb hs placed (each-left (lying f base) s first rest lies)) (in_turn-regular c ms h.1 here t hb hs placed (each-right (lying f base) s first rest lies)))
+        (assigned-joined base know s first rest A B (h.0 here s hb hs placed (each-left (lying f base) s first rest lies)) (in_turn-regular c ms h.1 here t hb hs placed (each-right (lying f base) s first rest lies)))
 
     -- ---- names
 
     -- places alone, which stand in no context
     abbrev pub PlacesMade : Making → Type 0
-    PlacesMade m = (here : Here) (s : Counters) → Assigned base s (m here s) (λ context. IsRegularIn f base context s (m here s))
+    PlacesMade m = (here : Here) (s : Counters) → Assigned base know s (m here s) (λ context. IsRegularIn f base context s (m here s))
 
     -- a place that is made, or none
-    place-made : (b : Bool) (x : PlaceInfo) (s : Counters) → Assigned base s (if b then one_place x else nothing) (λ context. IsRegularIn f base context s (if b then one_place x else nothing))
-    place-made true x s = assigned-map base s (one_place x) (λ context. Unit {0}) (λ context. IsRegularIn f base context s (one_place x)) (λ context g. each-one_place (regular f base context) s x tt) (assigned-place base s x)
-    place-made false x s = assigned-map base s nothing (λ context. Unit {0}) (λ context. IsRegularIn f base context s nothing) (λ context g. each-nothing (regular f base context) s) (assigned-nothing base s)
+    place-made : (b : Bool) (x : PlaceInfo) (s : Counters) → Assigned base know s (if b then one_place x else nothing) (λ context. IsRegularIn f base context s (if b then one_place x else nothing))
+    place-made true x s = assigned-map base know s (one_place x) (λ context. Unit {0}) (λ context. IsRegularIn f base context s (one_place x)) (λ context g. each-one_place (regular f base context) s x tt) (assigned-place base know s x)
+    place-made false x s = assigned-map base know s nothing (λ context. Unit {0}) (λ context. IsRegularIn f base context s nothing) (λ context g. each-nothing (regular f base context) s) (assigned-nothing base know s)
 
     -- a name that is declared or defined, and several
     pub name-regular : (x : Name) → PlacesMade (name_made base names i x)
     name-regular x here s = place-made (is_first i.infos x) (place_here here (place_type (variable_of i.variables x.id)) x.id x.at) s
 
     pub names-regular : (xs : List Name) → PlacesMade (names_made base names i xs)
-    names-regular [] here s = assigned-map base s nothing (λ context. Unit {0}) (λ context. IsRegularIn f base context s nothing) (λ context g. each-nothing (regular f base context) s) (assigned-nothing base s)
+    names-regular [] here s = assigned-map base know s nothing (λ context. Unit {0}) (λ context. IsRegularIn f base context s nothing) (λ context g. each-nothing (regular f base context) s) (assigned-nothing base know s)
     names-regular (x ∷ xs) here s =
         let first = name_made base names i x here s in
         let t = after s first in
         let rest = names_made base names i xs here t in
-        assigned-map base s (joined first rest) (λ context. IsRegularIn f base context s first × IsRegularIn f base context t rest) (λ context. IsRegularIn f base context s (joined first rest))
+        assigned-map base know s (joined first rest) (λ context. IsRegularIn f base context s first × IsRegularIn f base context t rest) (λ context. IsRegularIn f base context s (joined first rest))
         (λ context g. each-joined (regular f base context) s first rest g.0 g.1)
-        (assigned-joined base s first rest (λ context. IsRegularIn f base context s first) (λ context. IsRegularIn f base context t rest) (name-regular x here s) (names-regular xs here t))
+        (assigned-joined base know s first rest (λ context. IsRegularIn f base context s first) (λ context. IsRegularIn f base context t rest) (name-regular x here s) (names-regular xs here t))
 
     -- ---- conditions
 
@@ -255,7 +255,7 @@ module _ (f : FlatForm) (base : ℕ) where
     }
 
     -- `up`
-    pub crossing-regular : (at : Pos) (x : Walk) → WalkIn f base kinds.combinatorial x → CrossingIn (crossing base names i at x)
+    pub crossing-regular : (at : Pos) (x : Walk) → WalkIn f base know kinds.combinatorial x → CrossingIn (crossing base names i at x)
     crossing-regular at x hx here s hb hybrid lies =
         let t = past_occ s in
         let u = past_site t in
@@ -269,21 +269,21 @@ module _ (f : FlatForm) (base : ℕ) where
         let Q : (ℕ → Context) → Type 0 = λ context. Holds f base context here u kinds.combinatorial arg in
         record {
           crossing = record { occ = own; is = both.0; block = refl; value = refl };
-          assigned = assigned-map base s (joined (one_occ own) inner) (λ context. (context s.occs ≡ Hybrid) × Q context) (λ context. EventHolds f base context s (crossing base names i at x here s))
+          assigned = assigned-map base know s (joined (one_occ own) inner) (λ context. (context s.occs ≡ Hybrid) × Q context) (λ context. EventHolds f base context s (crossing base names i at x here s))
               (λ context g. record {
                 test = g.0;
-                parts = λ taken. occ-first (regular f base context) s own inner (occ-regular f context here s.occs kinds.hybrid Zero at (UpOf s.sites) hb g.0 refl (taken-unused f context here kinds.hybrid s.occs taken) tt)
+                parts = λ taken. occ-first (regular f base context) s own inner (occ-regular f context here s.occs kinds.hybrid Zero at (UpOf s.sites) hb g.0 refl (taken-unused f context here kinds.hybrid s.occs taken) tt taken)
                     (site-first (regular f base context) t site arg.parts (site-regular context here u.sites arg.root at hb hybrid a.root g.1.root)
                     (g.1.parts (taken-unused f context here kinds.combinatorial arg.root.occ (site-takes f t.sites site second.0))));
               })
-              (assigned-occ_first base s inner Q own Hybrid (assigned-site_first base t arg.parts Q site a.assigned));
+              (assigned-occ_first base know s inner Q own Hybrid (assigned-site_first base know t arg.parts Q site a.assigned));
         }
 
     -- several
-    pub crossings-regular : (ts : List Testing) → AllByRecursion CrossingIn ts → (here : Here) (s : Counters) → AtBlock f here → here.hybrid ≡ true → Lies f base s (test_all ts here s).parts → CrossingsRegular f base here s (test_all ts here s)
+    pub crossings-regular : (ts : List Testing) → AllByRecursion CrossingIn ts → (here : Here) (s : Counters) → AtBlock f here → here.hybrid ≡ true → Lies f base s (test_all ts here s).parts → CrossingsRegular f base know here s (test_all ts here s)
     crossings-regular [] h here s hb hybrid lies = record {
       crossings = tt;
-      assigned = assigned-map base s nothing (λ context. Unit {0}) (λ context. CrossingsHold f base context s (test_all [] here s)) (λ context g. record { tests = tt; parts = λ taken. each-nothing (regular f base context) s }) (assigned-nothing base s);
+      assigned = assigned-map base know s nothing (λ context. Unit {0}) (λ context. CrossingsHold f base context s (test_all [] here s)) (λ context g. record { tests = tt; parts = λ taken. each-nothing (regular f base context) s }) (assigned-nothing base know s);
     }
     crossings-regular (x ∷ xs) h here s hb hybrid lies =
         let first = x here s in
@@ -295,9 +295,9 @@ module _ (f : FlatForm) (base : ℕ) where
         let B : (ℕ → Context) → Type 0 = λ context. CrossingsHold f base context t rest in
         record {
           crossings = (a.crossing, b.crossings);
-          assigned = assigned-map base s (joined first.parts rest.parts) (λ context. A context × B context) (λ context. CrossingsHold f base context s (test_all (x ∷ xs) here s))
+          assigned = assigned-map base know s (joined first.parts rest.parts) (λ context. A context × B context) (λ context. CrossingsHold f base context s (test_all (x ∷ xs) here s))
               (λ context g. record { tests = (g.0.test, g.1.tests); parts = λ taken. each-joined (regular f base context) s first.parts rest.parts (g.0.parts taken.0) (g.1.parts taken.1) })
-              (assigned-joined base s first.parts rest.parts A B a.assigned b.assigned);
+              (assigned-joined base know s first.parts rest.parts A B a.assigned b.assigned);
         }
 
     -- the zero-crossings of an event fit their use
@@ -318,14 +318,14 @@ module _ (f : FlatForm) (base : ℕ) where
         let Q : (ℕ → Context) → Type 0 = λ context. CrossingsHold f base context t ups in
         record {
           event = record { occ = own; is = both.0; block = refl; call = refl; event = refl };
-          assigned = assigned-map base s (joined (one_hidden own) ups.parts) (λ context. (context n ≡ Hybrid) × Q context) (λ context. EventHolds f base context s (event base names i at ts here s))
+          assigned = assigned-map base know s (joined (one_hidden own) ups.parts) (λ context. (context n ≡ Hybrid) × Q context) (λ context. EventHolds f base context s (event base names i at ts here s))
               (λ context g. record {
                 test = g.0;
                 parts = λ taken. hidden-first (regular f base context) s own ups.parts
-                    (occ-regular f context here n kinds.hybrid BoolTy at (Fired ups.tests) hb g.0 refl (taken-unused f context here kinds.hybrid n taken) (crossings-used context here n at ups.tests hb both.0 g.0 ups.tests a.crossings g.1.tests))
+                    (occ-regular f context here n kinds.hybrid BoolTy at (Fired ups.tests) hb g.0 refl (taken-unused f context here kinds.hybrid n taken) (crossings-used context here n at ups.tests hb both.0 g.0 ups.tests a.crossings g.1.tests) taken)
                     (g.1.parts (operands-taken f n own ups.tests both.0 (λ k. refl)));
               })
-              (assigned-hidden_first base s ups.parts Q own Hybrid a.assigned);
+              (assigned-hidden_first base know s ups.parts Q own Hybrid a.assigned);
         }
 
     -- an event as a test
@@ -334,7 +334,7 @@ module _ (f : FlatForm) (base : ℕ) where
         let made = t here s in
         let a = ht here s hb hs lies in
         let e = a.event in
-        assigned-map base s made.parts (λ context. EventHolds f base context s made) (λ context. BodyIs f context here kinds.hybrid → TestHolds f base context s made)
+        assigned-map base know s made.parts (λ context. EventHolds f base context s made) (λ context. BodyIs f context here kinds.hybrid → TestHolds f base context s made)
         (λ context g body. record {
           test = used-by f context here.block made.test here.hybrid TestOf hb e.occ e.is e.block (g.test ∙ ap (λ h. test_context (context_of_block h)) (sym hs))
               (inr (ap (called_context context (context_of_block here.hybrid)) e.call ∙ body)) (e.event ∙ sym hs);
@@ -342,12 +342,12 @@ module _ (f : FlatForm) (base : ℕ) where
         }) a.assigned
 
     -- a condition in parentheses
-    pub tested-tests : (x : Walk) → WalkIn f base kinds.recalling x → TestingIn kinds.discrete (tested base names i x)
+    pub tested-tests : (x : Walk) → WalkIn f base know kinds.recalling x → TestingIn kinds.discrete (tested base names i x)
     tested-tests x hx here s hb hs lies =
         let e = x here s in
         let a = hx here s hb tt lies in
         let r = a.root in
-        assigned-map base s e.parts (λ context. Holds f base context here s kinds.recalling e) (λ context. BodyIs f context here kinds.discrete → TestHolds f base context s (tested base names i x here s))
+        assigned-map base know s e.parts (λ context. Holds f base context here s kinds.recalling e) (λ context. BodyIs f context here kinds.discrete → TestHolds f base context s (tested base names i x here s))
         (λ context g body. record {
           test = used-by f context here.block e.root.occ here.hybrid TestOf hb r.occ r.is r.block (g.root ∙ ap (λ h. test_context (context_of_block h)) (sym hs))
               (inl (ap (called_context context (context_of_block here.hybrid)) r.call ∙ body)) (r.value ∙ sym hs);
@@ -374,7 +374,7 @@ module _ (f : FlatForm) (base : ℕ) where
     right-all P (x ∷ y ∷ xs) e h hs = hs
 
     -- a plain equation
-    pub plain-regular : (c : kinds.Context) (left : List Name) (right : Walk) → AllByRecursion (λ (x : Name). IsVariable i x.id) left → WalkIn f base c right → MakingIn c (plain base names i left right)
+    pub plain-regular : (c : kinds.Context) (left : List Name) (right : Walk) → AllByRecursion (λ (x : Name). IsVariable i x.id) left → WalkIn f base know c right → MakingIn c (plain base names i left right)
     plain-regular c left right known hr here s hb hs placed lies =
         let first = names_made base names i left (in_body i here) s in
         let t = after s first in
@@ -386,14 +386,14 @@ module _ (f : FlatForm) (base : ℕ) where
         let a = hr here t hb hs (each-left (lying f base) t e.parts last (each-right (lying f base) s first rest lies)) in
         let P : (ℕ → Context) → Type 0 = λ context. IsRegularIn f base context s first in
         let Q : (ℕ → Context) → Type 0 = λ context. Holds f base context here t c e in
-        assigned-map base s (joined first rest) (λ context. P context × (Q context × Unit {0})) (λ context. BodyIs f context here c → IsRegularIn f base context s (joined first rest))
+        assigned-map base know s (joined first rest) (λ context. P context × (Q context × Unit {0})) (λ context. BodyIs f context here c → IsRegularIn f base context s (joined first rest))
         (λ context g body.
         let h = g.1.0 in
         each-joined (regular f base context) s first rest g.0
         (each-joined (regular f base context) t e.parts last (h.parts (λ free. sym body))
         (each-some_definers (regular f base context) (after t e.parts) definers
         (plain-used context here c hb placed body left roots known (right-all (λ r. IsResult f here.block r.occ) left e (root-result f here e.root.occ a.root) a.results) (right-all (λ r. context r.occ ≡ flat c) left e h.root h.results)))))
-        (assigned-joined base s first rest P (λ context. Q context × Unit {0}) (names-regular left (in_body i here) s) (assigned-joined base t e.parts last Q (λ context. Unit {0}) a.assigned (assigned-definers base (after t e.parts) definers)))
+        (assigned-joined base know s first rest P (λ context. Q context × Unit {0}) (names-regular left (in_body i here) s) (assigned-joined base know t e.parts last Q (λ context. Unit {0}) a.assigned (assigned-definers base know (after t e.parts) definers)))
 
     -- ---- `init`
 
@@ -412,7 +412,7 @@ module _ (f : FlatForm) (base : ℕ) where
         (at-place f here.call p (λ call. UsedSo f context k (StartOf call here.block)) h (used f context here.block k here.hybrid (StartOf here.call here.block) hb r e (state-use c (called_context context (context_of_block here.hybrid) here.call) ok body) r.value), tt)
 
     -- `init`
-    pub init-regular : (c : kinds.Context) (x : Name) (value : Walk) → kinds.allows_state c ≡ true → IsVariable i x.id → WalkIn f base kinds.recalling value → MakingIn c (init base names i x value)
+    pub init-regular : (c : kinds.Context) (x : Name) (value : Walk) → kinds.allows_state c ≡ true → IsVariable i x.id → WalkIn f base know kinds.recalling value → MakingIn c (init base names i x value)
     init-regular c x value ok known hr here s hb hs placed lies =
         let first = name_made base names i x (in_body i here) s in
         let t = after s first in
@@ -427,13 +427,13 @@ module _ (f : FlatForm) (base : ℕ) where
         let taken = start-taken p e.root.occ here (after t e.parts) place (each-right (lying f base) t e.parts last inner) in
         let P : (ℕ → Context) → Type 0 = λ context. IsRegularIn f base context s first in
         let Q : (ℕ → Context) → Type 0 = λ context. Holds f base context here t kinds.recalling e in
-        assigned-map base s (joined first rest) (λ context. P context × (Q context × Unit {0})) (λ context. BodyIs f context here c → IsRegularIn f base context s (joined first rest))
+        assigned-map base know s (joined first rest) (λ context. P context × (Q context × Unit {0})) (λ context. BodyIs f context here c → IsRegularIn f base context s (joined first rest))
         (λ context g body.
         let h = g.1.0 in
         each-joined (regular f base context) s first rest g.0
         (each-joined (regular f base context) t e.parts last (h.parts (taken-unused f context here kinds.recalling e.root.occ taken))
         (each-some_definers (regular f base context) (after t e.parts) definers (start-used context here c p e.root.occ ok hb place body (root-result f here e.root.occ a.root) h.root))))
-        (assigned-joined base s first rest P (λ context. Q context × Unit {0}) (name-regular x (in_body i here) s) (assigned-joined base t e.parts last Q (λ context. Unit {0}) a.assigned (assigned-definers base (after t e.parts) definers)))
+        (assigned-joined base know s first rest P (λ context. Q context × Unit {0}) (name-regular x (in_body i here) s) (assigned-joined base know t e.parts last Q (λ context. Unit {0}) a.assigned (assigned-definers base know (after t e.parts) definers)))
 
     -- ---- `der`
 
@@ -471,10 +471,10 @@ module _ (f : FlatForm) (base : ℕ) where
         )
 
     -- reset arms
-    pub resets-regular : (rs : List ResetWalk) → AllByRecursion ResetIn rs → (here : Here) (s : Counters) → AtBlock f here → here.hybrid ≡ true → Lies f base s (resets_made base names i rs here s).parts → ResetsRegular f base here s (resets_made base names i rs here s)
+    pub resets-regular : (rs : List ResetWalk) → AllByRecursion ResetIn rs → (here : Here) (s : Counters) → AtBlock f here → here.hybrid ≡ true → Lies f base s (resets_made base names i rs here s).parts → ResetsRegular f base know here s (resets_made base names i rs here s)
     resets-regular [] h here s hb hybrid lies = record {
       arms = tt;
-      assigned = assigned-map base s nothing (λ context. Unit {0}) (λ context. ResetsHold f base context s (resets_made base names i [] here s)) (λ context g. record { arms = tt; parts = λ taken. each-nothing (regular f base context) s }) (assigned-nothing base s);
+      assigned = assigned-map base know s nothing (λ context. Unit {0}) (λ context. ResetsHold f base context s (resets_made base names i [] here s)) (λ context g. record { arms = tt; parts = λ taken. each-nothing (regular f base context) s }) (assigned-nothing base know s);
     }
     resets-regular (r ∷ rs) h here s hb hybrid lies =
         let test = r.event here s in
@@ -492,19 +492,19 @@ module _ (f : FlatForm) (base : ℕ) where
         let E : (ℕ → Context) → Type 0 = λ context. ResetsHold f base context u rest in
         record {
           arms = (record { event = a.event; value = root-result f here value.root.occ b.root }, e.arms);
-          assigned = assigned-map base s (joined test.parts later) (λ context. A context × (B context × E context)) (λ context. ResetsHold f base context s (resets_made base names i (r ∷ rs) here s))
+          assigned = assigned-map base know s (joined test.parts later) (λ context. A context × (B context × E context)) (λ context. ResetsHold f base context s (resets_made base names i (r ∷ rs) here s))
               (λ context g. record {
                 arms = (record { event = g.0.test; value = g.1.0.root }, g.1.1.arms);
                 parts = λ taken. each-joined (regular f base context) s test.parts later (g.0.parts taken.0.0)
                     (each-joined (regular f base context) t value.parts rest.parts (g.1.0.parts (taken-unused f context here kinds.recalling value.root.occ taken.0.1)) (g.1.1.parts taken.1));
               })
-              (assigned-joined base s test.parts later A (λ context. B context × E context) a.assigned (assigned-joined base t value.parts rest.parts B E b.assigned e.assigned));
+              (assigned-joined base know s test.parts later A (λ context. B context × E context) a.assigned (assigned-joined base know t value.parts rest.parts B E b.assigned e.assigned));
         }
 
     -- the value of an `init` behind a `der`, if there is one
     abbrev pub StartIn : Option Walk → Type 0
     StartIn None = Unit {0}
-    StartIn (Some x) = WalkIn f base kinds.recalling x
+    StartIn (Some x) = WalkIn f base know kinds.recalling x
 
     -- the value of an `init` behind a `der` of place number `p`
     record StartHolds (context : ℕ → Context) (here : Here) (p : ℕ) (s : Counters) (m : StartMade) : Type 0 where
@@ -514,14 +514,14 @@ module _ (f : FlatForm) (base : ℕ) where
     -- that value stands in its context, and fits its use
     start-regular : (start : Option Walk) → StartIn start → (p : ℕ) (here : Here) (s u : Counters) → AtBlock f here → here.hybrid ≡ true → PlaceIn f here.call p → Lies f base s (start_made base names i start here s).parts →
         Lies f base u (some_definers (start_definers p here (start_made base names i start here s).value)) →
-        Assigned base s (start_made base names i start here s).parts (λ context. BodyIs f context here kinds.hybrid → StartHolds context here p s (start_made base names i start here s))
-    start-regular None hx p here s u hb hybrid place lies given = assigned-map base s nothing (λ context. Unit {0}) (λ context. BodyIs f context here kinds.hybrid → StartHolds context here p s (start_made base names i None here s))
-        (λ context g body. record { definers = tt; parts = each-nothing (regular f base context) s }) (assigned-nothing base s)
+        Assigned base know s (start_made base names i start here s).parts (λ context. BodyIs f context here kinds.hybrid → StartHolds context here p s (start_made base names i start here s))
+    start-regular None hx p here s u hb hybrid place lies given = assigned-map base know s nothing (λ context. Unit {0}) (λ context. BodyIs f context here kinds.hybrid → StartHolds context here p s (start_made base names i None here s))
+        (λ context g body. record { definers = tt; parts = each-nothing (regular f base context) s }) (assigned-nothing base know s)
     start-regular (Some x) hx p here s u hb hybrid place lies given =
         let e = x here s in
         let a = hx here s hb tt lies in
         let taken = start-taken p e.root.occ here u place given in
-        assigned-map base s e.parts (λ context. Holds f base context here s kinds.recalling e) (λ context. BodyIs f context here kinds.hybrid → StartHolds context here p s (start_made base names i (Some x) here s))
+        assigned-map base know s e.parts (λ context. Holds f base context here s kinds.recalling e) (λ context. BodyIs f context here kinds.hybrid → StartHolds context here p s (start_made base names i (Some x) here s))
         (λ context g body. record {
           definers = start-used context here kinds.hybrid p e.root.occ refl hb place body (root-result f here e.root.occ a.root) g.root;
           parts = g.parts (taken-unused f context here kinds.recalling e.root.occ taken);
@@ -537,7 +537,7 @@ module _ (f : FlatForm) (base : ℕ) where
     others-lie g gs s h = record { blocks = tt; places = tt; definers = h.definers.1; occs = tt; hidden = tt; sites = tt; choices = tt; automata = tt }
 
     -- `der`
-    pub der-regular : (x : Name) (slope : Walk) (start : Option Walk) (resets : List ResetWalk) → IsVariable i x.id → WalkIn f base kinds.hybrid slope → StartIn start → AllByRecursion ResetIn resets → MakingIn kinds.hybrid (der base names i x slope start resets)
+    pub der-regular : (x : Name) (slope : Walk) (start : Option Walk) (resets : List ResetWalk) → IsVariable i x.id → WalkIn f base know kinds.hybrid slope → StartIn start → AllByRecursion ResetIn resets → MakingIn kinds.hybrid (der base names i x slope start resets)
     der-regular x slope start resets known hslope hstart hresets here s hb hs placed lies =
         let first = name_made base names i x (in_body i here) s in
         let p = place_number (variable_of i.variables x.id) in
@@ -569,7 +569,7 @@ module _ (f : FlatForm) (base : ℕ) where
         let A : (ℕ → Context) → Type 0 = λ context. Holds f base context here t kinds.hybrid e in
         let B : (ℕ → Context) → Type 0 = λ context. BodyIs f context here kinds.hybrid → StartHolds context here p u begin in
         let D : (ℕ → Context) → Type 0 = λ context. ResetsHold f base context v arms in
-        assigned-map base s (joined first rest2) (λ context. P context × (A context × (B context × (D context × Unit {0})))) (λ context. BodyIs f context here kinds.hybrid → IsRegularIn f base context s (joined first rest2))
+        assigned-map base know s (joined first rest2) (λ context. P context × (A context × (B context × (D context × Unit {0})))) (λ context. BodyIs f context here kinds.hybrid → IsRegularIn f base context s (joined first rest2))
         (λ context g body.
         let h = g.1.0 in
         let begun = g.1.1.0 body in
@@ -585,7 +585,7 @@ module _ (f : FlatForm) (base : ℕ) where
           ),
           begun.definers,
         ))))))
-        (assigned-joined base s first rest2 P (λ context. A context × (B context × (D context × Unit {0}))) (name-regular x (in_body i here) s)
-        (assigned-joined base t e.parts rest3 A (λ context. B context × (D context × Unit {0})) a.assigned
-        (assigned-joined base u begin.parts rest4 B (λ context. D context × Unit {0}) b
-        (assigned-joined base v arms.parts last D (λ context. Unit {0}) d.assigned (assigned-definers base w (own ∷ starts))))))
+        (assigned-joined base know s first rest2 P (λ context. A context × (B context × (D context × Unit {0}))) (name-regular x (in_body i here) s)
+        (assigned-joined base know t e.parts rest3 A (λ context. B context × (D context × Unit {0})) a.assigned
+        (assigned-joined base know u begin.parts rest4 B (λ context. D context × Unit {0}) b
+        (assigned-joined base know v arms.parts last D (λ context. Unit {0}) d.assigned (assigned-definers base know w (own ∷ starts))))))

@@ -1,5 +1,4 @@
 -- What the walk of an expression makes stands in its context.
-use Rattle.std.proofs.lemmas.List.{length-append}
 use Rattle.std.proofs.Common.{◌≡◌, ℕ, ◌+◌, ◌<◌, ◌≤◌, Bool, true, false, List, [], ◌∷◌, length, slice_get, Option, Some, refl, sym, ap, subst, ◌∙◌, arith}
 use Rattle.std.specs.List.{AllByRecursion}
 use Rattle.std.specs.Option.{option_map}
@@ -28,8 +27,9 @@ use Rattle.zl_flat.specs.Parts.{Parts, Counters, nothing, joined, one_occ, one_h
 use Rattle.zl_flat.specs.Instances.{Copy, Callee, Instance, in_call, occ_here, callee, first_root, root_occs}
 use Rattle.zl_flat.specs.Operators.{infix_form, prefix_form, prefix_type}
 use Rattle.zl_flat.specs.Expressions.{Walk, Walked, WalkedAll, walk_all, one_result, leaf, LinkWalk, Linked, links, chain, call, built_in, prefixed, arrow, followed, flow_walk, conditional}
+use Rattle.zl_flat.proofs.PartsNumbers.{below-second, below-alone, below-others, below-nothing, number-from, at-most, first-of}
 use Rattle.zl_flat.proofs.WellFormedParts.{each-nothing, each-joined, each-left, each-right, occ-first, behind-occ, hidden-first, behind-hidden, each-one_occ, the_occ}
-use Rattle.zl_flat.proofs.RegularGround.{flat, Suits, suits-body, suits-branch, flat-branch, Assigned, assigned-map, assigned-joined, assigned-nothing, assigned-occ, assigned-occ_first, assigned-hidden_first, UsedSo, PartsUsed, OccRegular, lying, regular, Lies, IsRegularIn, AtBlock, BodyIs, Unused, IsResult, IsRoot, root-result}
+use Rattle.zl_flat.proofs.RegularGround.{flat, Suits, suits-body, suits-branch, flat-branch, Assigned, nothing_known, assigned-known, assigned-with, assigned-map, assigned-joined, assigned-nothing, assigned-occ, assigned-occ_first, assigned-hidden_first, UsedSo, PartsUsed, FormFits, OccRegular, lying, regular, Lies, IsRegularIn, AtBlock, BodyIs, Unused, IsResult, IsRoot, root-result}
 use Rattle.zl_flat.proofs.RegularUses.{all-map, Taken, operands-taken, condition-taken}
 
 -- ---- what a walk gives
@@ -41,12 +41,12 @@ pub record Holds (f : FlatForm) (base : ℕ) (context : ℕ → Context) (here :
   pub parts : Unused f context here c w.root.occ → IsRegularIn f base context s w.parts
 
 -- what is made here, in this context, stands in its context
-pub record WalkRegular (f : FlatForm) (base : ℕ) (here : Here) (s : Counters) (c : kinds.Context) (w : Walked) : Type 0 where
+pub record WalkRegular (f : FlatForm) (base : ℕ) (know : (ℕ → Context) → Type 0) (here : Here) (s : Counters) (c : kinds.Context) (w : Walked) : Type 0 where
   pub low : s.occs ≤ w.root.occ
   pub high : w.root.occ < (after s w.parts).occs
   pub root : IsRoot f here w.root.occ
   pub results : AllByRecursion (λ (r : Root). IsResult f here.block r.occ) w.results
-  pub assigned : Assigned base s w.parts (λ context. Holds f base context here s c w)
+  pub assigned : Assigned base know s w.parts (λ context. Holds f base context here s c w)
 
 -- expressions one behind the other
 pub record AllHold (f : FlatForm) (base : ℕ) (context : ℕ → Context) (here : Here) (s : Counters) (c : kinds.Context) (w : WalkedAll) : Type 0 where
@@ -54,17 +54,17 @@ pub record AllHold (f : FlatForm) (base : ℕ) (context : ℕ → Context) (here
   pub parts : AllByRecursion (λ (r : Root). Unused f context here c r.occ) w.roots → IsRegularIn f base context s w.parts
 
 -- so do expressions one behind the other
-pub record AllRegular (f : FlatForm) (base : ℕ) (here : Here) (s : Counters) (c : kinds.Context) (w : WalkedAll) : Type 0 where
+pub record AllRegular (f : FlatForm) (base : ℕ) (know : (ℕ → Context) → Type 0) (here : Here) (s : Counters) (c : kinds.Context) (w : WalkedAll) : Type 0 where
   pub roots : AllByRecursion (λ (r : Root). IsRoot f here r.occ) w.roots
-  pub assigned : Assigned base s w.parts (λ context. AllHold f base context here s c w)
+  pub assigned : Assigned base know s w.parts (λ context. AllHold f base context here s c w)
 
 -- an operator with its right operand, behind this left operand
-pub record StepRegular (f : FlatForm) (base : ℕ) (here : Here) (left : Root) (s : Counters) (c : kinds.Context) (w : Walked) : Type 0 where
+pub record StepRegular (f : FlatForm) (base : ℕ) (know : (ℕ → Context) → Type 0) (here : Here) (left : Root) (s : Counters) (c : kinds.Context) (w : Walked) : Type 0 where
   pub low : s.occs ≤ w.root.occ
   pub high : w.root.occ < (after s w.parts).occs
   pub root : IsRoot f here w.root.occ
   pub taken : Taken f left.occ
-  pub assigned : Assigned base s w.parts (λ context. context left.occ ≡ flat c → Holds f base context here s c w)
+  pub assigned : Assigned base know s w.parts (λ context. context left.occ ≡ flat c → Holds f base context here s c w)
 
 -- operators one behind the other
 pub record LinksHold (f : FlatForm) (base : ℕ) (context : ℕ → Context) (here : Here) (left : Root) (s : Counters) (c : kinds.Context) (w : Linked) : Type 0 where
@@ -73,11 +73,11 @@ pub record LinksHold (f : FlatForm) (base : ℕ) (context : ℕ → Context) (he
   pub parts : Unused f context here c w.root.occ → IsRegularIn f base context s w.parts
 
 -- the root of a chain has a number from the chain's first on
-pub record LinksRegular (f : FlatForm) (base : ℕ) (here : Here) (m : ℕ) (left : Root) (s : Counters) (c : kinds.Context) (w : Linked) : Type 0 where
+pub record LinksRegular (f : FlatForm) (base : ℕ) (know : (ℕ → Context) → Type 0) (here : Here) (m : ℕ) (left : Root) (s : Counters) (c : kinds.Context) (w : Linked) : Type 0 where
   pub low : m ≤ w.root.occ
   pub high : w.root.occ < (after s w.parts).occs
   pub root : IsRoot f here w.root.occ
-  pub assigned : Assigned base s w.parts (λ context. context left.occ ≡ flat c → LinksHold f base context here left s c w)
+  pub assigned : Assigned base know s w.parts (λ context. context left.occ ≡ flat c → LinksHold f base context here left s c w)
 
 -- the copy of a call that has this context
 pub record CopyHolds (f : FlatForm) (base : ℕ) (context : ℕ → Context) (s : Counters) (c : kinds.Context) (w : Copy) : Type 0 where
@@ -88,36 +88,13 @@ pub record CopyHolds (f : FlatForm) (base : ℕ) (context : ℕ → Context) (s 
 pub record CopyRegular (f : FlatForm) (base : ℕ) (here : Here) (roots : List Root) (s : Counters) (c : kinds.Context) (w : Copy) : Type 0 where
   pub some : 0 < length w.results
   pub results : AllByRecursion (λ (r : Root). IsResult f here.block r.occ) w.results
-  pub assigned : Assigned base s w.parts (λ context. BodyIs f context here c → AllByRecursion (λ (r : Root). context r.occ ≡ flat c) roots → CopyHolds f base context s c w)
+  pub assigned : Assigned base nothing_known s w.parts (λ context. BodyIs f context here c → AllByRecursion (λ (r : Root). context r.occ ≡ flat c) roots → CopyHolds f base context s c w)
 
 -- ---- numbers
 
 -- an occurrence that stands first has the next number
 own-low : (n : ℕ) → n ≤ n
 own-low n = omega arith
-
--- and the numbers go on behind it
-pub own-high : (s : Counters) (x : Occ) (q : Parts) → s.occs < (after s (joined (one_occ x) q)).occs
-unfolding after joined one_occ
-own-high s x q = omega arith
-
-alone-high : (s : Counters) (x : Occ) → s.occs < (after s (one_occ x)).occs
-unfolding after one_occ
-alone-high s x = omega arith
-
--- a number below those behind the second part is below those behind both
-pub joined-high : (s : Counters) (p q : Parts) (k : ℕ) → k < (after (after s p) q).occs → k < (after s (joined p q)).occs
-unfolding after joined
-joined-high s p q k h = omega (arith, h, length-append p.occs q.occs)
-
--- numbers grow
-pub after-low : (s : Counters) (p : Parts) → s.occs ≤ (after s p).occs
-unfolding after
-after-low s p = omega arith
-
--- at most, through a third
-at-most : (a b c : ℕ) → a ≤ b → b ≤ c → a ≤ c
-at-most a b c h k = omega (arith, h, k)
 
 -- a number below another isn't the other
 differ : (a b c : ℕ) → a < b → b ≤ c → a ≡ c → ⊥
@@ -159,11 +136,12 @@ module _ (f : FlatForm) where
   branch-used context here n k condition side c hb r own e = used context here.block k here.hybrid (BranchOf n condition side) hb r (e ∙ flat-branch c ∙ ap branch_context (sym own)) tt r.value
 
   -- the occurrence itself
-  pub occ-regular : (context : ℕ → Context) (here : Here) (n : ℕ) (c : kinds.Context) (ty : Ty) (at : Pos) (form : Form) → AtBlock f here → context n ≡ flat c → IsAllowed (flat c) form → Unused f context here c n → PartsUsed f context n form → OccRegular f context n (occ_here here ty at form)
-  occ-regular context here n c ty at form hb e allowed unused parts = record {
+  pub occ-regular : (context : ℕ → Context) (here : Here) (n : ℕ) (c : kinds.Context) (ty : Ty) (at : Pos) (form : Form) → AtBlock f here → context n ≡ flat c → IsAllowed (flat c) form → Unused f context here c n → PartsUsed f context n form → FormFits f context n form → OccRegular f context n (occ_here here ty at form)
+  occ-regular context here n c ty at form hb e allowed unused parts fits = record {
     allowed = subst (λ d. IsAllowed d form) (sym e) allowed;
     unused = λ free. e ∙ unused free ∙ ap (λ g. called_context context (context_of_block g) here.call) (sym hb);
     parts = parts;
+    fits = fits;
   }
 
   -- what is used needs no context of its body
@@ -175,30 +153,30 @@ module _ (f : FlatForm) where
   all-taken context here c [] h = tt
   all-taken context here c (r ∷ rs) h = (taken-unused context here c r.occ h.0, all-taken context here c rs h.1)
 
+-- a declaration of this kind, called
+abbrev pub CalleeRegular : FlatForm → ℕ → DeclKind → Callee → Type 0
+CalleeRegular f base kind w = (here : Here) (roots : List Root) (s : Counters) (c : kinds.Context) → kinds.allows_call (Some kind) c ≡ true → AtBlock f here → Suits here.hybrid c → AllByRecursion (λ (r : Root). IsResult f here.block r.occ) roots →
+    Lies f base s (w here roots s).parts → CopyRegular f base here roots s c (w here roots s)
+
 -- ---- forms of expressions
 
-module _ (f : FlatForm) (base : ℕ) where
+module _ (f : FlatForm) (base : ℕ) (know : (ℕ → Context) → Type 0) where
   -- what is made in this context where it is to stand
   abbrev pub RegularAt : Here → Counters → kinds.Context → Walked → Type 0
-  RegularAt here s c w = AtBlock f here → Suits here.hybrid c → Lies f base s w.parts → WalkRegular f base here s c w
+  RegularAt here s c w = AtBlock f here → Suits here.hybrid c → Lies f base s w.parts → WalkRegular f base know here s c w
 
   -- the walk of an expression, and that of an operator with its right operand
   abbrev pub WalkIn : kinds.Context → Walk → Type 0
   WalkIn c w = (here : Here) (s : Counters) → RegularAt here s c (w here s)
 
   abbrev pub LinkIn : kinds.Context → LinkWalk → Type 0
-  LinkIn c l = (here : Here) (left : Root) (s : Counters) → AtBlock f here → Suits here.hybrid c → IsRoot f here left.occ → Lies f base s (l here left s).parts → StepRegular f base here left s c (l here left s)
-
-  -- a declaration of this kind, called
-  abbrev pub CalleeRegular : DeclKind → Callee → Type 0
-  CalleeRegular kind w = (here : Here) (roots : List Root) (s : Counters) (c : kinds.Context) → kinds.allows_call (Some kind) c ≡ true → AtBlock f here → Suits here.hybrid c → AllByRecursion (λ (r : Root). IsResult f here.block r.occ) roots →
-      Lies f base s (w here roots s).parts → CopyRegular f base here roots s c (w here roots s)
+  LinkIn c l = (here : Here) (left : Root) (s : Counters) → AtBlock f here → Suits here.hybrid c → IsRoot f here left.occ → Lies f base s (l here left s).parts → StepRegular f base know here left s c (l here left s)
 
   -- expressions one behind the other stand in their context
-  pub walk_all-regular : (c : kinds.Context) (ws : List Walk) → AllByRecursion (WalkIn c) ws → (here : Here) (s : Counters) → AtBlock f here → Suits here.hybrid c → Lies f base s (walk_all ws here s).parts → AllRegular f base here s c (walk_all ws here s)
+  pub walk_all-regular : (c : kinds.Context) (ws : List Walk) → AllByRecursion (WalkIn c) ws → (here : Here) (s : Counters) → AtBlock f here → Suits here.hybrid c → Lies f base s (walk_all ws here s).parts → AllRegular f base know here s c (walk_all ws here s)
   walk_all-regular c [] h here s hb hs lies = record {
     roots = tt;
-    assigned = assigned-map base s nothing (λ context. Unit {0}) (λ context. AllHold f base context here s c (walk_all [] here s)) (λ context h. record { roots = tt; parts = λ u. each-nothing (regular f base context) s }) (assigned-nothing base s);
+    assigned = assigned-map base know s nothing (λ context. Unit {0}) (λ context. AllHold f base context here s c (walk_all [] here s)) (λ context h. record { roots = tt; parts = λ u. each-nothing (regular f base context) s }) (assigned-nothing base know s);
   }
   walk_all-regular c (w ∷ ws) h here s hb hs lies =
       let first = w here s in
@@ -208,25 +186,25 @@ module _ (f : FlatForm) (base : ℕ) where
       let b = walk_all-regular c ws h.1 here t hb hs (each-right (lying f base) s first.parts rest.parts lies) in
       record {
         roots = (a.root, b.roots);
-        assigned = assigned-map base s (joined first.parts rest.parts) (λ context. Holds f base context here s c first × AllHold f base context here t c rest) (λ context. AllHold f base context here s c (walk_all (w ∷ ws) here s))
+        assigned = assigned-map base know s (joined first.parts rest.parts) (λ context. Holds f base context here s c first × AllHold f base context here t c rest) (λ context. AllHold f base context here s c (walk_all (w ∷ ws) here s))
             (λ context h. record { roots = (h.0.root, h.1.roots); parts = λ u. each-joined (regular f base context) s first.parts rest.parts (h.0.parts u.0) (h.1.parts u.1) })
-            (assigned-joined base s first.parts rest.parts (λ context. Holds f base context here s c first) (λ context. AllHold f base context here t c rest) a.assigned b.assigned);
+            (assigned-joined base know s first.parts rest.parts (λ context. Holds f base context here s c first) (λ context. AllHold f base context here t c rest) a.assigned b.assigned);
       }
 
   -- an occurrence without parts
-  pub leaf-regular : (c : kinds.Context) (ty : Ty) (at : Pos) (form : Form) (here : Here) (s : Counters) → is_event form ≡ false → MarksNothing form → IsAllowed (flat c) form → ((context : ℕ → Context) → PartsUsed f context s.occs form) → RegularAt here s c (leaf here ty at form s)
-  leaf-regular c ty at form here s value marks allowed none hb hs lies =
+  pub leaf-regular : (c : kinds.Context) (ty : Ty) (at : Pos) (form : Form) (here : Here) (s : Counters) → is_event form ≡ false → MarksNothing form → IsAllowed (flat c) form → ((context : ℕ → Context) → PartsUsed f context s.occs form) → ((context : ℕ → Context) → know context → FormFits f context s.occs form) → RegularAt here s c (leaf here ty at form s)
+  leaf-regular c ty at form here s value marks allowed none fits hb hs lies =
       let own = occ_here here ty at form in
       let is = the_occ (lying f base) s own lies in
       let root : IsRoot f here s.occs = record { occ = own; is = is; block = refl; call = refl; value = value; marks = marks } in
       record {
         low = own-low s.occs;
-        high = alone-high s own;
+        high = below-alone s own;
         root = root;
         results = (root-result f here s.occs root, tt);
-        assigned = assigned-map base s (one_occ own) (λ context. context s.occs ≡ flat c) (λ context. Holds f base context here s c (leaf here ty at form s))
-            (λ context e. record { root = e; results = (e, tt); parts = λ u. each-one_occ (regular f base context) s own (occ-regular f context here s.occs c ty at form hb e allowed u (none context)) })
-            (assigned-occ base s own (flat c));
+        assigned = assigned-map base know s (one_occ own) (λ context. (context s.occs ≡ flat c) × know context) (λ context. Holds f base context here s c (leaf here ty at form s))
+            (λ context e. record { root = e.0; results = (e.0, tt); parts = λ u. each-one_occ (regular f base context) s own (occ-regular f context here s.occs c ty at form hb e.0 allowed u (none context) (fits context e.1)) })
+            (assigned-with base know s (one_occ own) (λ context. context s.occs ≡ flat c) (assigned-occ base know s own (flat c)));
       }
 
   -- what is made inside an occurrence that stands before what it is made of, where this is known of what stands before it
@@ -234,7 +212,8 @@ module _ (f : FlatForm) (base : ℕ) where
     pub value : is_event form ≡ false
     pub marks : MarksNothing form
     pub allowed : IsAllowed (flat c) form
-    pub assigned : Assigned base (past_occ s) q (λ context. P context → context s.occs ≡ flat c → PartsUsed f context s.occs form × IsRegularIn f base context (past_occ s) q)
+    pub fits : (context : ℕ → Context) → FormFits f context s.occs form
+    pub assigned : Assigned base know (past_occ s) q (λ context. P context → context s.occs ≡ flat c → PartsUsed f context s.occs form × IsRegularIn f base context (past_occ s) q)
 
   -- what such an occurrence with its parts gives
   pub record GivenRegular (here : Here) (s : Counters) (c : kinds.Context) (P : (ℕ → Context) → Type 0) (w : Walked) : Type 0 where
@@ -242,7 +221,7 @@ module _ (f : FlatForm) (base : ℕ) where
     pub high : w.root.occ < (after s w.parts).occs
     pub root : IsRoot f here w.root.occ
     pub results : AllByRecursion (λ (r : Root). IsResult f here.block r.occ) w.results
-    pub assigned : Assigned base s w.parts (λ context. P context → Holds f base context here s c w)
+    pub assigned : Assigned base know s w.parts (λ context. P context → Holds f base context here s c w)
 
   -- an occurrence before what it is made of stands in its context, and so do its parts
   pub whole-given : (c : kinds.Context) (P : (ℕ → Context) → Type 0) (ty : Ty) (at : Pos) (form : Form) (q : Parts) (here : Here) (s : Counters) →
@@ -257,14 +236,14 @@ module _ (f : FlatForm) (base : ℕ) where
       let Q : (ℕ → Context) → Type 0 = λ context. P context → context s.occs ≡ flat c → PartsUsed f context s.occs form × IsRegularIn f base context (past_occ s) q in
       record {
         low = own-low s.occs;
-        high = own-high s own q;
+        high = below-others s own q;
         root = root;
         results = (root-result f here s.occs root, tt);
-        assigned = assigned-map base s (joined (one_occ own) q) (λ context. (context s.occs ≡ flat c) × Q context) (λ context. P context → Holds f base context here s c whole)
+        assigned = assigned-map base know s (joined (one_occ own) q) (λ context. (context s.occs ≡ flat c) × Q context) (λ context. P context → Holds f base context here s c whole)
             (λ context h p.
             let g = h.1 p h.0 in
-            record { root = h.0; results = (h.0, tt); parts = λ u. occ-first (regular f base context) s own q (occ-regular f context here s.occs c ty at form hb h.0 a.allowed u g.0) g.1 })
-            (assigned-occ_first base s q Q own (flat c) a.assigned);
+            record { root = h.0; results = (h.0, tt); parts = λ u. occ-first (regular f base context) s own q (occ-regular f context here s.occs c ty at form hb h.0 a.allowed u g.0 (a.fits context)) g.1 })
+            (assigned-occ_first base know s q Q own (flat c) a.assigned);
       }
 
   -- the same where nothing stands before it
@@ -278,7 +257,7 @@ module _ (f : FlatForm) (base : ℕ) where
         high = a.high;
         root = a.root;
         results = a.results;
-        assigned = assigned-map base s whole.parts (λ context. Unit {0} → Holds f base context here s c whole) (λ context. Holds f base context here s c whole) (λ context h. h tt) a.assigned;
+        assigned = assigned-map base know s whole.parts (λ context. Unit {0} → Holds f base context here s c whole) (λ context. Holds f base context here s c whole) (λ context h. h tt) a.assigned;
       }
 
   -- ---- operators
@@ -305,7 +284,8 @@ module _ (f : FlatForm) (base : ℕ) where
         value = refl;
         marks = tt;
         allowed = tt;
-        assigned = assigned-map base t arguments.parts (λ context. AllHold f base context here t c arguments) (λ context. Unit {0} → context s.occs ≡ flat c → PartsUsed f context s.occs form × IsRegularIn f base context t arguments.parts)
+        fits = λ context. tt;
+        assigned = assigned-map base know t arguments.parts (λ context. AllHold f base context here t c arguments) (λ context. Unit {0} → context s.occs ≡ flat c → PartsUsed f context s.occs form × IsRegularIn f base context t arguments.parts)
             (λ context g p own. (
               operands-used context here s.occs ty at op ks c hb is own arguments.roots a.roots g.roots,
               g.parts (all-taken f context here c arguments.roots (operands-taken f s.occs (occ_here here ty at form) ks is (λ k. refl))),
@@ -315,11 +295,11 @@ module _ (f : FlatForm) (base : ℕ) where
       hb hs lies
 
   -- an operator with one operand, of which the context is that of its parts
-  one-operand : (c d : kinds.Context) (at : Pos) (form : ℕ → Form) (x : Walk) → ((k : ℕ) → is_event (form k) ≡ false) → ((k : ℕ) → MarksNothing (form k)) → ((k : ℕ) → IsAllowed (flat c) (form k)) → ((h : Bool) → Suits h c → Suits h d) →
+  one-operand : (c d : kinds.Context) (at : Pos) (form : ℕ → Form) (x : Walk) → ((k : ℕ) → is_event (form k) ≡ false) → ((k : ℕ) → MarksNothing (form k)) → ((k : ℕ) → IsAllowed (flat c) (form k)) → ((k n : ℕ) (context : ℕ → Context) → FormFits f context n (form k)) → ((h : Bool) → Suits h c → Suits h d) →
       ((k : ℕ) (b : Context) → part_context b (flat c) (Some (form k)) ≡ flat d) → ((k j n : ℕ) → part_uses j n (form k) ≡ when (among j (k ∷ [])) (PartOf n)) →
       ((context : ℕ → Context) (n k : ℕ) → UsedSo f context k (PartOf n) → PartsUsed f context n (form k)) → WalkIn d x →
       (here : Here) (s : Counters) (of : Root → Ty) → RegularAt here s c (one_result (joined (one_occ (occ_here here (of (x here (past_occ s)).root) at (form (x here (past_occ s)).root.occ))) (x here (past_occ s)).parts) s.occs (of (x here (past_occ s)).root))
-  one-operand c d at form x value marks allowed suits part uses parts hx here s of hb hs lies =
+  one-operand c d at form x value marks allowed fits suits part uses parts hx here s of hb hs lies =
       let t = past_occ s in
       let operand = x here t in
       let k = operand.root.occ in
@@ -332,7 +312,8 @@ module _ (f : FlatForm) (base : ℕ) where
         value = value k;
         marks = marks k;
         allowed = allowed k;
-        assigned = assigned-map base t operand.parts (λ context. Holds f base context here t d operand) (λ context. Unit {0} → context s.occs ≡ flat c → PartsUsed f context s.occs (form k) × IsRegularIn f base context t operand.parts)
+        fits = λ context. fits k s.occs context;
+        assigned = assigned-map base know t operand.parts (λ context. Holds f base context here t d operand) (λ context. Unit {0} → context s.occs ≡ flat c → PartsUsed f context s.occs (form k) × IsRegularIn f base context t operand.parts)
             (λ context g p e. (
               parts context s.occs k (part-used f context here s.occs k own_ty at (form k) hb is (root-result f here k a.root)
                   (g.root ∙ sym (part k (context_of_block here.hybrid)) ∙ ap (λ b. part_context (context_of_block here.hybrid) b (Some (form k))) (sym e))),
@@ -348,13 +329,13 @@ module _ (f : FlatForm) (base : ℕ) where
 
   -- an operator before its operand
   pub prefixed-regular : (c : kinds.Context) (names : List (List ℕ)) (i : Instance) (op : Prefix) (at : Pos) (x : Walk) → kinds.allows_prefix op c ≡ true → WalkIn (kinds.operand_context op c) x → WalkIn c (prefixed base names i op at x)
-  prefixed-regular c names i prefix.Minus at x ok hx here s = one-operand c c at (prefix_form prefix.Minus) x (λ k. refl) (λ k. tt) (λ k. tt) (same-suits c) (λ k b. refl) (λ k j n. refl) (λ context n k h. (h, tt)) hx here s (λ r. prefix_type prefix.Minus r.ty)
-  prefixed-regular c names i prefix.MinusDot at x ok hx here s = one-operand c c at (prefix_form prefix.MinusDot) x (λ k. refl) (λ k. tt) (λ k. tt) (same-suits c) (λ k b. refl) (λ k j n. refl) (λ context n k h. (h, tt)) hx here s (λ r. prefix_type prefix.MinusDot r.ty)
-  prefixed-regular c names i prefix.Not at x ok hx here s = one-operand c c at (prefix_form prefix.Not) x (λ k. refl) (λ k. tt) (λ k. tt) (same-suits c) (λ k b. refl) (λ k j n. refl) (λ context n k h. (h, tt)) hx here s (λ r. prefix_type prefix.Not r.ty)
+  prefixed-regular c names i prefix.Minus at x ok hx here s = one-operand c c at (prefix_form prefix.Minus) x (λ k. refl) (λ k. tt) (λ k. tt) (λ k n context. tt) (same-suits c) (λ k b. refl) (λ k j n. refl) (λ context n k h. (h, tt)) hx here s (λ r. prefix_type prefix.Minus r.ty)
+  prefixed-regular c names i prefix.MinusDot at x ok hx here s = one-operand c c at (prefix_form prefix.MinusDot) x (λ k. refl) (λ k. tt) (λ k. tt) (λ k n context. tt) (same-suits c) (λ k b. refl) (λ k j n. refl) (λ context n k h. (h, tt)) hx here s (λ r. prefix_type prefix.MinusDot r.ty)
+  prefixed-regular c names i prefix.Not at x ok hx here s = one-operand c c at (prefix_form prefix.Not) x (λ k. refl) (λ k. tt) (λ k. tt) (λ k n context. tt) (same-suits c) (λ k b. refl) (λ k j n. refl) (λ context n k h. (h, tt)) hx here s (λ r. prefix_type prefix.Not r.ty)
   prefixed-regular kinds.combinatorial names i prefix.Pre at x ok hx here s = absurd (cc)
   prefixed-regular kinds.recalling names i prefix.Pre at x ok hx here s = absurd (cc)
   prefixed-regular kinds.hybrid names i prefix.Pre at x ok hx here s = absurd (cc)
-  prefixed-regular kinds.discrete names i prefix.Pre at x ok hx here s = one-operand kinds.discrete kinds.discrete at (prefix_form prefix.Pre) x (λ k. refl) (λ k. tt) (λ k. refl) (same-suits kinds.discrete) (λ k b. refl) (λ k j n. refl) (λ context n k h. (h, tt)) hx here s (λ r. prefix_type prefix.Pre r.ty)
+  prefixed-regular kinds.discrete names i prefix.Pre at x ok hx here s = one-operand kinds.discrete kinds.discrete at (prefix_form prefix.Pre) x (λ k. refl) (λ k. tt) (λ k. refl) (λ k n context. tt) (same-suits kinds.discrete) (λ k b. refl) (λ k j n. refl) (λ context n k h. (h, tt)) hx here s (λ r. prefix_type prefix.Pre r.ty)
 
   -- an operator with its right operand, behind its left one
   pub link-regular : (c : kinds.Context) (op : Infix) (at : Pos) (x : Walk) → WalkIn c x →
@@ -376,7 +357,8 @@ module _ (f : FlatForm) (base : ℕ) where
         value = refl;
         marks = tt;
         allowed = tt;
-        assigned = assigned-map base t right.parts (λ context. Holds f base context here t c right) (λ context. P context → context s.occs ≡ flat c → PartsUsed f context s.occs form × IsRegularIn f base context t right.parts)
+        fits = λ context. tt;
+        assigned = assigned-map base know t right.parts (λ context. Holds f base context here t c right) (λ context. P context → context s.occs ≡ flat c → PartsUsed f context s.occs form × IsRegularIn f base context t right.parts)
             (λ context g p e. (
               (part-used f context here s.occs left.occ ty at form hb is (root-result f here left.occ r) (p ∙ sym e), (part-used f context here s.occs right.root.occ ty at form hb is (root-result f here right.root.occ b.root) (g.root ∙ sym e), tt)),
               g.parts (taken-unused f context here c right.root.occ taken.1.0),
@@ -386,39 +368,34 @@ module _ (f : FlatForm) (base : ℕ) where
       hb lies in
       record { low = a.low; high = a.high; root = a.root; taken = taken.0; assigned = a.assigned }
 
-  -- nothing made adds no number
-  none-high : (s : Counters) (k : ℕ) → k < s.occs → k < (after s nothing).occs
-  unfolding after nothing
-  none-high s k h = omega (arith, h)
-
   -- operators of one level
   pub links-regular : (c : kinds.Context) (ls : List LinkWalk) → AllByRecursion (LinkIn c) ls → (here : Here) (m : ℕ) (left : Root) (s : Counters) → m ≤ left.occ → m ≤ s.occs → left.occ < s.occs → AtBlock f here → Suits here.hybrid c → IsRoot f here left.occ →
-      Lies f base s (links ls here left s).parts → LinksRegular f base here m left s c (links ls here left s)
+      Lies f base s (links ls here left s).parts → LinksRegular f base know here m left s c (links ls here left s)
   links-regular c [] h here m left s le_left le_here lt hb hs r lies = record {
     low = le_left;
-    high = none-high s left.occ lt;
+    high = below-nothing s left.occ lt;
     root = r;
-    assigned = assigned-map base s nothing (λ context. Unit {0}) (λ context. context left.occ ≡ flat c → LinksHold f base context here left s c (links [] here left s))
-        (λ context h e. record { root = e; first = λ u. u; parts = λ u. each-nothing (regular f base context) s }) (assigned-nothing base s);
+    assigned = assigned-map base know s nothing (λ context. Unit {0}) (λ context. context left.occ ≡ flat c → LinksHold f base context here left s c (links [] here left s))
+        (λ context h e. record { root = e; first = λ u. u; parts = λ u. each-nothing (regular f base context) s }) (assigned-nothing base know s);
   }
   links-regular c (l ∷ ls) h here m left s le_left le_here lt hb hs r lies =
       let one = l here left s in
       let t = after s one.parts in
       let rest = links ls here one.root t in
       let a = h.0 here left s hb hs r (each-left (lying f base) s one.parts rest.parts lies) in
-      let b = links-regular c ls h.1 here m one.root t (at-most m s.occs one.root.occ le_here a.low) (at-most m s.occs t.occs le_here (after-low s one.parts)) a.high hb hs a.root (each-right (lying f base) s one.parts rest.parts lies) in
+      let b = links-regular c ls h.1 here m one.root t (at-most m s.occs one.root.occ le_here a.low) (at-most m s.occs t.occs le_here (number-from s one.parts)) a.high hb hs a.root (each-right (lying f base) s one.parts rest.parts lies) in
       record {
         low = b.low;
-        high = joined-high s one.parts rest.parts rest.root.occ b.high;
+        high = below-second s one.parts rest.parts rest.root.occ b.high;
         root = b.root;
-        assigned = assigned-map base s (joined one.parts rest.parts)
+        assigned = assigned-map base know s (joined one.parts rest.parts)
             (λ context. (context left.occ ≡ flat c → Holds f base context here s c one) × (context one.root.occ ≡ flat c → LinksHold f base context here one.root t c rest))
             (λ context. context left.occ ≡ flat c → LinksHold f base context here left s c (links (l ∷ ls) here left s))
             (λ context g e.
             let x = g.0 e in
             let y = g.1 x.root in
             record { root = y.root; first = λ u. taken-unused f context here c left.occ a.taken; parts = λ u. each-joined (regular f base context) s one.parts rest.parts (x.parts (y.first u)) (y.parts u) })
-            (assigned-joined base s one.parts rest.parts (λ context. context left.occ ≡ flat c → Holds f base context here s c one) (λ context. context one.root.occ ≡ flat c → LinksHold f base context here one.root t c rest) a.assigned b.assigned);
+            (assigned-joined base know s one.parts rest.parts (λ context. context left.occ ≡ flat c → Holds f base context here s c one) (λ context. context one.root.occ ≡ flat c → LinksHold f base context here one.root t c rest) a.assigned b.assigned);
       }
 
   pub chain-regular : (c : kinds.Context) (x : Walk) (ls : List LinkWalk) → WalkIn c x → AllByRecursion (LinkIn c) ls → WalkIn c (chain x ls)
@@ -427,19 +404,19 @@ module _ (f : FlatForm) (base : ℕ) where
       let t = after s first.parts in
       let rest = links ls here first.root t in
       let a = hx here s hb hs (each-left (lying f base) s first.parts rest.parts lies) in
-      let b = links-regular c ls hls here s.occs first.root t a.low (after-low s first.parts) a.high hb hs a.root (each-right (lying f base) s first.parts rest.parts lies) in
+      let b = links-regular c ls hls here s.occs first.root t a.low (number-from s first.parts) a.high hb hs a.root (each-right (lying f base) s first.parts rest.parts lies) in
       record {
         low = b.low;
-        high = joined-high s first.parts rest.parts rest.root.occ b.high;
+        high = below-second s first.parts rest.parts rest.root.occ b.high;
         root = b.root;
         results = (root-result f here rest.root.occ b.root, tt);
-        assigned = assigned-map base s (joined first.parts rest.parts)
+        assigned = assigned-map base know s (joined first.parts rest.parts)
             (λ context. Holds f base context here s c first × (context first.root.occ ≡ flat c → LinksHold f base context here first.root t c rest))
             (λ context. Holds f base context here s c (chain x ls here s))
             (λ context g.
             let y = g.1 g.0.root in
             record { root = y.root; results = (y.root, tt); parts = λ u. each-joined (regular f base context) s first.parts rest.parts (g.0.parts (y.first u)) (y.parts u) })
-            (assigned-joined base s first.parts rest.parts (λ context. Holds f base context here s c first) (λ context. context first.root.occ ≡ flat c → LinksHold f base context here first.root t c rest) a.assigned b.assigned);
+            (assigned-joined base know s first.parts rest.parts (λ context. Holds f base context here s c first) (λ context. context first.root.occ ≡ flat c → LinksHold f base context here first.root t c rest) a.assigned b.assigned);
       }
 
   -- ---- `if`, `->`, `fby`
@@ -472,7 +449,8 @@ module _ (f : FlatForm) (base : ℕ) where
         value = refl;
         marks = λ same. differ left.root.occ v.occs right.root.occ b.high e.low same;
         allowed = tt;
-        assigned = assigned-map base t (joined test.parts branches) (λ context. A context × (B context × D context)) (λ context. Unit {0} → context s.occs ≡ flat c → PartsUsed f context s.occs form × IsRegularIn f base context t (joined test.parts branches))
+        fits = λ context. tt;
+        assigned = assigned-map base know t (joined test.parts branches) (λ context. A context × (B context × D context)) (λ context. Unit {0} → context s.occs ≡ flat c → PartsUsed f context s.occs form × IsRegularIn f base context t (joined test.parts branches))
             (λ context g p own_is. (
               (
                 part-used f context here s.occs test.root.occ left.root.ty at form hb is (root-result f here test.root.occ a.root) (g.0.root ∙ sym own_is),
@@ -482,7 +460,7 @@ module _ (f : FlatForm) (base : ℕ) where
               each-joined (regular f base context) t test.parts branches (g.0.parts (taken-unused f context here c test.root.occ taken.0))
                   (each-joined (regular f base context) u left.parts right.parts (g.1.0.parts (taken-unused f context here d left.root.occ taken.1)) (g.1.1.parts (taken-unused f context here d right.root.occ taken.2))),
             ))
-            (assigned-joined base t test.parts branches A (λ context. B context × D context) a.assigned (assigned-joined base u left.parts right.parts B D b.assigned e.assigned));
+            (assigned-joined base know t test.parts branches A (λ context. B context × D context) a.assigned (assigned-joined base know u left.parts right.parts B D b.assigned e.assigned));
       })
       hb hs lies
 
@@ -511,7 +489,8 @@ module _ (f : FlatForm) (base : ℕ) where
         value = refl;
         marks = tt;
         allowed = refl;
-        assigned = assigned-map base (past_occ t) right.parts (λ context. Holds f base context here (past_occ t) c right) (λ context. P context → context t.occs ≡ flat c → PartsUsed f context t.occs form × IsRegularIn f base context (past_occ t) right.parts)
+        fits = λ context. tt;
+        assigned = assigned-map base know (past_occ t) right.parts (λ context. Holds f base context here (past_occ t) c right) (λ context. P context → context t.occs ≡ flat c → PartsUsed f context t.occs form × IsRegularIn f base context (past_occ t) right.parts)
             (λ context g p own_is. (
               (part-used f context here t.occs left.root.occ ty at form hb is (root-result f here left.root.occ a.root) p, (part-used f context here t.occs right.root.occ ty at form hb is (root-result f here right.root.occ e.root) g.root, tt)),
               g.parts (taken-unused f context here c right.root.occ taken.1.0),
@@ -520,15 +499,15 @@ module _ (f : FlatForm) (base : ℕ) where
       })
       hb behind in
       record {
-        low = after-low s left.parts;
-        high = joined-high s left.parts rest t.occs b.high;
+        low = number-from s left.parts;
+        high = below-second s left.parts rest t.occs b.high;
         root = b.root;
         results = b.results;
-        assigned = assigned-map base s (joined left.parts rest) (λ context. Holds f base context here s c left × (P context → Holds f base context here t c whole)) (λ context. Holds f base context here s c (arrow base names i at x y here s))
+        assigned = assigned-map base know s (joined left.parts rest) (λ context. Holds f base context here s c left × (P context → Holds f base context here t c whole)) (λ context. Holds f base context here s c (arrow base names i at x y here s))
             (λ context g.
             let w = g.1 g.0.root in
             record { root = w.root; results = w.results; parts = λ u. each-joined (regular f base context) s left.parts rest (g.0.parts (taken-unused f context here c left.root.occ taken.0)) (w.parts u) })
-            (assigned-joined base s left.parts rest (λ context. Holds f base context here s c left) (λ context. P context → Holds f base context here t c whole) a.assigned b.assigned);
+            (assigned-joined base know s left.parts rest (λ context. Holds f base context here s c left) (λ context. P context → Holds f base context here t c whole) a.assigned b.assigned);
       }
 
   -- an occurrence adds no hidden one
@@ -570,7 +549,8 @@ module _ (f : FlatForm) (base : ℕ) where
         value = refl;
         marks = tt;
         allowed = refl;
-        assigned = assigned-map base (past_occ t) inner (λ context. (context (base + (past_occ t).hidden) ≡ flat c) × Q context) (λ context. P context → context t.occs ≡ flat c → PartsUsed f context t.occs form × IsRegularIn f base context (past_occ t) inner)
+        fits = λ context. tt;
+        assigned = assigned-map base know (past_occ t) inner (λ context. (context (base + (past_occ t).hidden) ≡ flat c) × Q context) (λ context. P context → context t.occs ≡ flat c → PartsUsed f context t.occs form × IsRegularIn f base context (past_occ t) inner)
             (λ context g p own_is.
             let pre_context = subst (λ n. context n ≡ flat c) number g.0 in (
               (
@@ -580,22 +560,22 @@ module _ (f : FlatForm) (base : ℕ) where
               hidden-first (regular f base context) (past_occ t) pre right.parts
                   (subst (λ n. OccRegular f context n pre) (sym number)
                   (occ-regular f context here k c ty at (Pre right.root.occ) hb pre_context refl (taken-unused f context here c k taken.1.0)
-                  (part-used f context here k right.root.occ ty at (Pre right.root.occ) hb pre_is (root-result f here right.root.occ e.root) g.1.root, tt)))
+                  (part-used f context here k right.root.occ ty at (Pre right.root.occ) hb pre_is (root-result f here right.root.occ e.root) g.1.root, tt) tt))
                   (g.1.parts (taken-unused f context here c right.root.occ pre_takes.0)),
             ))
-            (assigned-hidden_first base (past_occ t) right.parts Q pre (flat c) e.assigned);
+            (assigned-hidden_first base know (past_occ t) right.parts Q pre (flat c) e.assigned);
       })
       hb behind in
       record {
-        low = after-low s left.parts;
-        high = joined-high s left.parts rest t.occs b.high;
+        low = number-from s left.parts;
+        high = below-second s left.parts rest t.occs b.high;
         root = b.root;
         results = b.results;
-        assigned = assigned-map base s (joined left.parts rest) (λ context. Holds f base context here s c left × (P context → Holds f base context here t c whole)) (λ context. Holds f base context here s c (followed base names i at x y here s))
+        assigned = assigned-map base know s (joined left.parts rest) (λ context. Holds f base context here s c left × (P context → Holds f base context here t c whole)) (λ context. Holds f base context here s c (followed base names i at x y here s))
             (λ context g.
             let w = g.1 g.0.root in
             record { root = w.root; results = w.results; parts = λ u. each-joined (regular f base context) s left.parts rest (g.0.parts (taken-unused f context here c left.root.occ taken.0)) (w.parts u) })
-            (assigned-joined base s left.parts rest (λ context. Holds f base context here s c left) (λ context. P context → Holds f base context here t c whole) a.assigned b.assigned);
+            (assigned-joined base know s left.parts rest (λ context. Holds f base context here s c left) (λ context. P context → Holds f base context here t c whole) a.assigned b.assigned);
       }
 
   -- both are discrete
@@ -621,18 +601,13 @@ module _ (f : FlatForm) (base : ℕ) where
         results = copy.results;
       }
 
-  -- the first of some
-  first-of : (P : Root → Type 0) (rs : List Root) → 0 < length rs → AllByRecursion P rs → P (first_root rs)
-  first-of P [] le h = absurd (omega (arith, le))
-  first-of P (r ∷ rs) le h = h.0
-
   -- what has the context of the body needs no use
   pub body-unused : (context : ℕ → Context) (here : Here) (c : kinds.Context) → BodyIs f context here c → (rs : List Root) → AllByRecursion (λ (r : Root). Unused f context here c r.occ) rs
   body-unused context here c e [] = tt
   body-unused context here c e (r ∷ rs) = (λ free. sym e, body-unused context here c e rs)
 
   -- a call of what was found: the arguments and the copy have the context of the call
-  called-regular : (c : kinds.Context) (kind : DeclKind) (w : Callee) (at : Pos) (args : List Walk) → kinds.allows_call (Some kind) c ≡ true → CalleeRegular kind w → AllByRecursion (WalkIn c) args → WalkIn c (called (Some w) at args)
+  called-regular : (c : kinds.Context) (kind : DeclKind) (w : Callee) (at : Pos) (args : List Walk) → kinds.allows_call (Some kind) c ≡ true → CalleeRegular f base kind w → AllByRecursion (WalkIn c) args → WalkIn c (called (Some w) at args)
   called-regular c kind w at args ok hw h here s hb hs lies =
       let inside = in_call s.occs here in
       let t = past_occ s in
@@ -650,10 +625,10 @@ module _ (f : FlatForm) (base : ℕ) where
       let D : (ℕ → Context) → Type 0 = λ context. BodyIs f context inside c → AllByRecursion (λ (r : Root). context r.occ ≡ flat c) arguments.roots → CopyHolds f base context u c copy in
       record {
         low = own-low s.occs;
-        high = own-high s own q;
+        high = below-others s own q;
         root = record { occ = own; is = both.0; block = refl; call = refl; value = refl; marks = tt };
         results = d.results;
-        assigned = assigned-map base s (joined (one_occ own) q) (λ context. (context s.occs ≡ flat c) × (A context × D context)) (λ context. Holds f base context here s c (called (Some w) at args here s))
+        assigned = assigned-map base know s (joined (one_occ own) q) (λ context. (context s.occs ≡ flat c) × (A context × D context)) (λ context. Holds f base context here s c (called (Some w) at args here s))
             (λ context g.
             let body : BodyIs f context inside c = ap (body_context (context_of_block here.hybrid)) g.0 ∙ suits-body here.hybrid c hs in
             let copied = g.1.1 body g.1.0.roots in
@@ -665,12 +640,12 @@ module _ (f : FlatForm) (base : ℕ) where
                     part-used f context here s.occs result.occ result.ty at form hb both.0 (first-of (λ r. IsResult f here.block r.occ) copy.results d.some d.results)
                         (first-of (λ r. context r.occ ≡ flat c) copy.results d.some copied.results ∙ sym body),
                     tt,
-                  ))
+                  ) tt)
                   (each-joined (regular f base context) t arguments.parts copy.parts (g.1.0.parts (body-unused context inside c body arguments.roots)) copied.parts);
             })
-            (assigned-occ_first base s q (λ context. A context × D context) own (flat c) (assigned-joined base t arguments.parts copy.parts A D a.assigned d.assigned));
+            (assigned-occ_first base know s q (λ context. A context × D context) own (flat c) (assigned-joined base know t arguments.parts copy.parts A D a.assigned (assigned-known base know u copy.parts D d.assigned)));
       }
 
   -- a call by name
-  pub call-regular : (c : kinds.Context) (names : List (List ℕ)) (i : Instance) (x : Name) (args : List Walk) (kind : DeclKind) (w : Callee) → i.callees x.id ≡ Some w → kinds.allows_call (Some kind) c ≡ true → CalleeRegular kind w → AllByRecursion (WalkIn c) args → WalkIn c (call base names i x args)
+  pub call-regular : (c : kinds.Context) (names : List (List ℕ)) (i : Instance) (x : Name) (args : List Walk) (kind : DeclKind) (w : Callee) → i.callees x.id ≡ Some w → kinds.allows_call (Some kind) c ≡ true → CalleeRegular f base kind w → AllByRecursion (WalkIn c) args → WalkIn c (call base names i x args)
   call-regular c names i x args kind w is ok hw h = subst (λ o. WalkIn c (called o x.at args)) (sym is) (called-regular c kind w x.at args ok hw h)

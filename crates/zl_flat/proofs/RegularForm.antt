@@ -5,21 +5,27 @@ use Rattle.std.proofs.lemmas.Bool.{eqb-true, eq-eqb}
 use Rattle.zl_value.specs.Lists.{Has}
 use Rattle.zl_meaning.specs.FlatForm.{FlatForm}
 use Rattle.zl_meaning.specs.Uses.{Use, ArgumentOf, definer_uses, uses_of}
-use Rattle.zl_meaning.specs.Regular.{Context, Plainly, context_of_block, is_hybrid_block, IsHybridBy, called_context, use_context, form_in, IsUseIn, use_call, IsTestFor, IsRegular}
+use Rattle.zl_meaning.specs.Copies.{KeepsCopies}
+use Rattle.zl_meaning.specs.Regular.{Context, Plainly, context_of_block, is_hybrid_block, IsHybridBy, called_context, use_context, form_in, IsUseIn, use_call, IsTestFor, is_value, IsRegular}
 use Rattle.zl_meaning.specs.declared.block.Block.{Block}
 use Rattle.zl_meaning.specs.declared.block.Choice.{Choice}
 use Rattle.zl_meaning.specs.declared.block.Auto.{Auto}
 use Rattle.zl_meaning.specs.declared.place.Definer.{Definer}
 use Rattle.zl_meaning.specs.declared.place.PlaceInfo.{PlaceInfo}
+use Rattle.zl_meaning.specs.declared.occurrence.Form.{Form}
+use Rattle.zl_meaning.specs.declared.occurrence.Form.TheVariants.{Lit, Read, Last, Op as Apply, If, Arrow, Pre, Result, Up, Fired, Step}
 use Rattle.zl_meaning.specs.declared.occurrence.Occ.{Occ}
 use Rattle.zl_meaning.specs.declared.occurrence.SiteInfo.{SiteInfo}
 use Rattle.zl_flat.specs.declared.given.Given.{Given}
 use Rattle.zl_flat.specs.Parts.{Parts, start}
 use Rattle.zl_flat.specs.Expansion.{definers_of, with_definers, defined_places, form_of}
 use Rattle.zl_flat.proofs.WellFormedParts.{AllFrom, from-append, from-left, from-right, all-stand}
-use Rattle.zl_flat.proofs.WellFormedExprTrees.{none-left, none-right}
+use Rattle.zl_flat.proofs.RulesKept.{none-left, none-right}
+use Rattle.zl_meaning.proofs.UseCases.{listed-of-use}
 use Rattle.zl_flat.proofs.WellFormedForm.{parts-sit, from-get}
-use Rattle.zl_flat.proofs.RegularGround.{Contexts, Fits, Agrees, UsedSo, PartsUsed, OccRegular, DefinerUsed, GivenUsed, TestUsed, KindUsed, SiteRegular, ChoiceRegular, MovesRegular, Lies, IsRegularIn}
+use Rattle.zl_flat.proofs.UsesNamed.{unused-listed}
+use Rattle.zl_flat.proofs.UsesBranches.{HasContexts}
+use Rattle.zl_flat.proofs.RegularGround.{Contexts, Fits, Agrees, UsedSo, PartsUsed, FormFits, OccRegular, DefinerUsed, GivenUsed, TestUsed, KindUsed, SiteRegular, ChoiceRegular, MovesRegular, Lies, IsRegularIn}
 use Rattle.zl_flat.proofs.RegularUses.{all-map, Free, no-definer, PlaceUsed, EntriesUsed, uses-used}
 
 -- ---- lists
@@ -167,21 +173,46 @@ module _ (p : Parts) (ins outs : List ℕ) where
     site-at : (n : ℕ) (site : SiteInfo) → slice_get f.sites n ≡ Some site → SiteRegular f context site
     site-at n site is = at-number (λ n x. SiteRegular f context x) p.sites h.sites n site is
 
-    -- the form is regular, with these contexts
-    pub form-regular : IsRegular f
-    form-regular = record {
-      blocks = λ b block is. (at-number (λ n (x : Block). IsHybridBy f x.hybrid x.parent x.kind × KindUsed f context x.kind) p.blocks h.blocks b block is).0;
-      choices = λ n choice is hybrid. (at-number (λ n x. ChoiceRegular f context x) p.choices h.choices n choice is).other hybrid;
+    -- what no use names has a value
+    unused-value : (k : ℕ) (form : Form) → FormFits f context k form → uses_of f k ≡ [] → is_value form ≡ true
+    unused-value k (Up s) h free = absurd (h free)
+    unused-value k (Fired ks) h free = absurd (h free)
+    unused-value k (Lit v) h free = refl
+    unused-value k (Read p) h free = refl
+    unused-value k (Last p) h free = refl
+    unused-value k (Apply op ks) h free = refl
+    unused-value k (If c x y) h free = refl
+    unused-value k (Arrow x y) h free = refl
+    unused-value k (Pre x) h free = refl
+    unused-value k (Result x) h free = refl
+    unused-value k Step h free = refl
+
+    -- its occurrences have these contexts
+    pub form-contexts : HasContexts f
+    form-contexts = record {
       context = context;
       occs = λ k occ is. record {
         allowed = (occ-at k occ is).allowed;
-        unused = (occ-at k occ is).unused;
-        contexts = λ of has. (each-use k occ is of has).stands;
-        equations = λ of has. (each-use k occ is of has).equation;
-        tests = λ of has. (each-use k occ is of has).test;
+        unused = λ unused. (occ-at k occ is).unused (unused-listed f k unused);
+        unused_form = λ unused. unused-value k occ.form (occ-at k occ is).fits (unused-listed f k unused);
+        contexts = λ of used. (each-use k occ is of (listed-of-use f k of used)).stands;
+        equations = λ of used. (each-use k occ is of (listed-of-use f k of used)).equation;
+        tests = λ of used. (each-use k occ is of (listed-of-use f k of used)).test;
       };
+    }
+
+    -- the form is regular, with these contexts
+    pub form-regular : KeepsCopies f → IsRegular f
+    unfolding form-contexts
+    form-regular copies = record {
+      blocks = λ b block is. (at-number (λ n (x : Block). IsHybridBy f x.hybrid x.parent x.kind × KindUsed f context x.kind) p.blocks h.blocks b block is).0;
+      choices = λ n choice is hybrid. (at-number (λ n x. ChoiceRegular f context x) p.choices h.choices n choice is).other hybrid;
+      context = context;
+      occs = form-contexts.occs;
       sites = λ n site is. (site-at n site is).block;
       arguments = λ n site occ is arg. (site-at n site is).marks occ arg;
+      lasts = λ k p call last at. (subst (FormFits f context k) last.2 (occ-at k last.0 last.1).fits) call at;
+      copies = copies;
     }
 
 -- ---- contexts by number

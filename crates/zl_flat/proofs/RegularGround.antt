@@ -5,7 +5,7 @@ use Rattle.std.proofs.lemmas.List.{length-append}
 use Rattle.zl_ast.specs.Kinds as kinds
 use Rattle.zl_ast.specs.declared.program.DeclKind.{DeclKind}
 use Rattle.zl_ast.specs.declared.program.DeclKind.TheVariants as decl
-use Rattle.zl_meaning.specs.FlatForm.{FlatForm}
+use Rattle.zl_meaning.specs.FlatForm.{FlatForm, place_call}
 use Rattle.zl_meaning.specs.Uses.{Use, PartOf, BranchOf, DefinerOf, SlopeOf, EventOf, StartOf, ResetOf, TestOf, ArgumentOf, parts, events_of, definer_uses, uses_of}
 use Rattle.zl_meaning.specs.Regular.{Context, Plainly, WithLast, Discrete, Hybrid, context_of_block, is_hybrid_in, is_hybrid_block, IsHybridBy, body_context, called_context, branch_context, form_in, use_context, IsAllowed, is_event, IsTestFor, MarksNothing, IsUseIn, use_call}
 use Rattle.zl_meaning.specs.declared.block.Block.{Block}
@@ -19,7 +19,7 @@ use Rattle.zl_meaning.specs.declared.place.Definer.TheVariants.{Input, Plain, De
 use Rattle.zl_meaning.specs.declared.place.DerArm.{DerArm}
 use Rattle.zl_meaning.specs.declared.place.PlaceInfo.{PlaceInfo}
 use Rattle.zl_meaning.specs.declared.occurrence.Form.{Form}
-use Rattle.zl_meaning.specs.declared.occurrence.Form.TheVariants.{If}
+use Rattle.zl_meaning.specs.declared.occurrence.Form.TheVariants.{Last, If, Up, Fired}
 use Rattle.zl_meaning.specs.declared.occurrence.Occ.{Occ}
 use Rattle.zl_meaning.specs.declared.occurrence.SiteInfo.{SiteInfo}
 use Rattle.zl_flat.specs.declared.here.Here.{Here}
@@ -96,11 +96,15 @@ pub record Agrees (context : ℕ → Context) (base : ℕ) (s : Counters) (cs : 
   pub occs : AllFrom (λ n c. context n ≡ c) s.occs cs.occs
   pub hidden : AllFrom (λ n c. context (base + n) ≡ c) s.hidden cs.hidden
 
--- there are contexts for these parts with which this holds
-pub record Assigned (base : ℕ) (s : Counters) (p : Parts) (Q : (ℕ → Context) → Type 0) : Type 0 where
+-- there are contexts for these parts with which this holds, if these are known to be such
+pub record Assigned (base : ℕ) (know : (ℕ → Context) → Type 0) (s : Counters) (p : Parts) (Q : (ℕ → Context) → Type 0) : Type 0 where
   pub contexts : Contexts
   pub fits : Fits contexts p
-  pub holds : (context : ℕ → Context) → Agrees context base s contexts → Q context
+  pub holds : (context : ℕ → Context) → Agrees context base s contexts → know context → Q context
+
+-- nothing is known of them
+abbrev pub nothing_known : (ℕ → Context) → Type 0
+nothing_known context = Unit {0}
 
 -- the contexts of parts one behind the other
 abbrev both : Contexts → Contexts → Contexts
@@ -130,79 +134,91 @@ module _ (context : ℕ → Context) (base : ℕ) where
     hidden = subst (λ n. AllFrom (λ n c. context (base + n) ≡ c) (s.hidden + n) ds.hidden) e.1 (from-right (λ n c. context (base + n) ≡ c) s.hidden cs.hidden ds.hidden h.hidden);
   }
 
-module _ (base : ℕ) where
+-- where less is known
+pub assigned-known : (base : ℕ) (know : (ℕ → Context) → Type 0) (s : Counters) (p : Parts) (Q : (ℕ → Context) → Type 0) → Assigned base nothing_known s p Q → Assigned base know s p Q
+assigned-known base know s p Q a = record { contexts = a.contexts; fits = a.fits; holds = λ context h n. a.holds context h tt }
+
+-- where it follows from what is supposed
+pub assigned-supposed : (base : ℕ) (know : (ℕ → Context) → Type 0) (s : Counters) (p : Parts) (R Q : (ℕ → Context) → Type 0) → ((context : ℕ → Context) → R context → know context) → Assigned base know s p (λ context. R context → Q context) → Assigned base nothing_known s p (λ context. R context → Q context)
+assigned-supposed base know s p R Q g a = record { contexts = a.contexts; fits = a.fits; holds = λ context h n r. a.holds context h (g context r) r }
+
+module _ (base : ℕ) (know : (ℕ → Context) → Type 0) where
   -- what follows from what holds
-  pub assigned-map : (s : Counters) (p : Parts) (Q R : (ℕ → Context) → Type 0) → ((context : ℕ → Context) → Q context → R context) → Assigned base s p Q → Assigned base s p R
-  assigned-map s p Q R g a = record { contexts = a.contexts; fits = a.fits; holds = λ context h. g context (a.holds context h) }
+  pub assigned-map : (s : Counters) (p : Parts) (Q R : (ℕ → Context) → Type 0) → ((context : ℕ → Context) → Q context → R context) → Assigned base know s p Q → Assigned base know s p R
+  assigned-map s p Q R g a = record { contexts = a.contexts; fits = a.fits; holds = λ context h n. g context (a.holds context h n) }
+
+  -- with what is known
+  pub assigned-with : (s : Counters) (p : Parts) (Q : (ℕ → Context) → Type 0) → Assigned base know s p Q → Assigned base know s p (λ context. Q context × know context)
+  assigned-with s p Q a = record { contexts = a.contexts; fits = a.fits; holds = λ context h n. (a.holds context h n, n) }
 
   -- of parts one behind the other
-  pub assigned-joined : (s : Counters) (p q : Parts) (Q R : (ℕ → Context) → Type 0) → Assigned base s p Q → Assigned base (after s p) q R → Assigned base s (joined p q) (λ context. Q context × R context)
+  pub assigned-joined : (s : Counters) (p q : Parts) (Q R : (ℕ → Context) → Type 0) → Assigned base know s p Q → Assigned base know (after s p) q R → Assigned base know s (joined p q) (λ context. Q context × R context)
   assigned-joined s p q Q R a b = record {
     contexts = both a.contexts b.contexts;
     fits = fits-joined a.contexts b.contexts p q a.fits b.fits;
-    holds = λ context h. (a.holds context (agrees-left context base s a.contexts b.contexts h), b.holds context (agrees-right context base s p a.contexts b.contexts a.fits h));
+    holds = λ context h n. (a.holds context (agrees-left context base s a.contexts b.contexts h) n, b.holds context (agrees-right context base s p a.contexts b.contexts a.fits h) n);
   }
 
   -- of parts without occurrences
-  assigned-none : (s : Counters) (p : Parts) → length p.occs ≡ 0 → length p.hidden ≡ 0 → Assigned base s p (λ context. Unit {0})
-  assigned-none s p e g = record { contexts = record { occs = []; hidden = [] }; fits = (sym e, sym g); holds = λ context h. tt }
+  assigned-none : (s : Counters) (p : Parts) → length p.occs ≡ 0 → length p.hidden ≡ 0 → Assigned base know s p (λ context. Unit {0})
+  assigned-none s p e g = record { contexts = record { occs = []; hidden = [] }; fits = (sym e, sym g); holds = λ context h n. tt }
 
   -- nothing, places and definers have no occurrences
-  pub assigned-nothing : (s : Counters) → Assigned base s nothing (λ context. Unit {0})
+  pub assigned-nothing : (s : Counters) → Assigned base know s nothing (λ context. Unit {0})
   unfolding nothing
   assigned-nothing s = assigned-none s nothing refl refl
 
-  pub assigned-places : (s : Counters) (xs : List PlaceInfo) → Assigned base s (some_places xs) (λ context. Unit {0})
+  pub assigned-places : (s : Counters) (xs : List PlaceInfo) → Assigned base know s (some_places xs) (λ context. Unit {0})
   unfolding some_places
   assigned-places s xs = assigned-none s (some_places xs) refl refl
 
-  pub assigned-definers : (s : Counters) (xs : List Given) → Assigned base s (some_definers xs) (λ context. Unit {0})
+  pub assigned-definers : (s : Counters) (xs : List Given) → Assigned base know s (some_definers xs) (λ context. Unit {0})
   unfolding some_definers
   assigned-definers s xs = assigned-none s (some_definers xs) refl refl
 
-  pub assigned-place : (s : Counters) (x : PlaceInfo) → Assigned base s (one_place x) (λ context. Unit {0})
+  pub assigned-place : (s : Counters) (x : PlaceInfo) → Assigned base know s (one_place x) (λ context. Unit {0})
   unfolding one_place
   assigned-place s x = assigned-none s (one_place x) refl refl
 
   -- of an occurrence of this context, alone and before others
-  pub assigned-occ : (s : Counters) (x : Occ) (c : Context) → Assigned base s (one_occ x) (λ context. context s.occs ≡ c)
+  pub assigned-occ : (s : Counters) (x : Occ) (c : Context) → Assigned base know s (one_occ x) (λ context. context s.occs ≡ c)
   unfolding one_occ
-  assigned-occ s x c = record { contexts = record { occs = c ∷ []; hidden = [] }; fits = (refl, refl); holds = λ context h. h.occs.0 }
+  assigned-occ s x c = record { contexts = record { occs = c ∷ []; hidden = [] }; fits = (refl, refl); holds = λ context h n. h.occs.0 }
 
   -- of a hidden occurrence
-  pub assigned-hidden : (s : Counters) (x : Occ) (c : Context) → Assigned base s (one_hidden x) (λ context. context (base + s.hidden) ≡ c)
+  pub assigned-hidden : (s : Counters) (x : Occ) (c : Context) → Assigned base know s (one_hidden x) (λ context. context (base + s.hidden) ≡ c)
   unfolding one_hidden
-  assigned-hidden s x c = record { contexts = record { occs = []; hidden = c ∷ [] }; fits = (refl, refl); holds = λ context h. h.hidden.0 }
+  assigned-hidden s x c = record { contexts = record { occs = []; hidden = c ∷ [] }; fits = (refl, refl); holds = λ context h n. h.hidden.0 }
 
   module _ (s : Counters) (q : Parts) (Q : (ℕ → Context) → Type 0) where
     -- an occurrence before other parts has its context
-    pub assigned-occ_first : (x : Occ) (c : Context) → Assigned base (past_occ s) q Q → Assigned base s (joined (one_occ x) q) (λ context. (context s.occs ≡ c) × Q context)
-    assigned-occ_first x c a = assigned-joined s (one_occ x) q (λ context. context s.occs ≡ c) Q (assigned-occ s x c) (subst (λ t. Assigned base t q Q) (sym (after-occ s x)) a)
+    pub assigned-occ_first : (x : Occ) (c : Context) → Assigned base know (past_occ s) q Q → Assigned base know s (joined (one_occ x) q) (λ context. (context s.occs ≡ c) × Q context)
+    assigned-occ_first x c a = assigned-joined s (one_occ x) q (λ context. context s.occs ≡ c) Q (assigned-occ s x c) (subst (λ t. Assigned base know t q Q) (sym (after-occ s x)) a)
 
     -- so has a hidden one
-    pub assigned-hidden_first : (x : Occ) (c : Context) → Assigned base (past_hidden s) q Q → Assigned base s (joined (one_hidden x) q) (λ context. (context (base + s.hidden) ≡ c) × Q context)
-    assigned-hidden_first x c a = assigned-joined s (one_hidden x) q (λ context. context (base + s.hidden) ≡ c) Q (assigned-hidden s x c) (subst (λ t. Assigned base t q Q) (sym (after-hidden s x)) a)
+    pub assigned-hidden_first : (x : Occ) (c : Context) → Assigned base know (past_hidden s) q Q → Assigned base know s (joined (one_hidden x) q) (λ context. (context (base + s.hidden) ≡ c) × Q context)
+    assigned-hidden_first x c a = assigned-joined s (one_hidden x) q (λ context. context (base + s.hidden) ≡ c) Q (assigned-hidden s x c) (subst (λ t. Assigned base know t q Q) (sym (after-hidden s x)) a)
 
     -- parts without occurrences before others
-    behind-none : (p : Parts) → length p.occs ≡ 0 → length p.hidden ≡ 0 → Assigned base (after s p) q Q → Assigned base s (joined p q) Q
+    behind-none : (p : Parts) → length p.occs ≡ 0 → length p.hidden ≡ 0 → Assigned base know (after s p) q Q → Assigned base know s (joined p q) Q
     behind-none p e g a = assigned-map s (joined p q) (λ context. Unit {0} × Q context) Q (λ context h. h.1) (assigned-joined s p q (λ context. Unit {0}) Q (assigned-none s p e g) a)
 
     -- a block, a site, a choice and an automaton before other parts add no context
-    pub assigned-block_first : (x : Block) → Assigned base (past_block s) q Q → Assigned base s (joined (one_block x) q) Q
+    pub assigned-block_first : (x : Block) → Assigned base know (past_block s) q Q → Assigned base know s (joined (one_block x) q) Q
     unfolding one_block
-    assigned-block_first x a = behind-none (one_block x) refl refl (subst (λ t. Assigned base t q Q) (sym (after-block s x)) a)
+    assigned-block_first x a = behind-none (one_block x) refl refl (subst (λ t. Assigned base know t q Q) (sym (after-block s x)) a)
 
-    pub assigned-site_first : (x : SiteInfo) → Assigned base (past_site s) q Q → Assigned base s (joined (one_site x) q) Q
+    pub assigned-site_first : (x : SiteInfo) → Assigned base know (past_site s) q Q → Assigned base know s (joined (one_site x) q) Q
     unfolding one_site
-    assigned-site_first x a = behind-none (one_site x) refl refl (subst (λ t. Assigned base t q Q) (sym (after-site s x)) a)
+    assigned-site_first x a = behind-none (one_site x) refl refl (subst (λ t. Assigned base know t q Q) (sym (after-site s x)) a)
 
-    pub assigned-choice_first : (x : Choice) → Assigned base (past_choice s) q Q → Assigned base s (joined (one_choice x) q) Q
+    pub assigned-choice_first : (x : Choice) → Assigned base know (past_choice s) q Q → Assigned base know s (joined (one_choice x) q) Q
     unfolding one_choice
-    assigned-choice_first x a = behind-none (one_choice x) refl refl (subst (λ t. Assigned base t q Q) (sym (after-choice s x)) a)
+    assigned-choice_first x a = behind-none (one_choice x) refl refl (subst (λ t. Assigned base know t q Q) (sym (after-choice s x)) a)
 
-    pub assigned-automaton_first : (x : Auto) → Assigned base (past_automaton s) q Q → Assigned base s (joined (one_automaton x) q) Q
+    pub assigned-automaton_first : (x : Auto) → Assigned base know (past_automaton s) q Q → Assigned base know s (joined (one_automaton x) q) Q
     unfolding one_automaton
-    assigned-automaton_first x a = behind-none (one_automaton x) refl refl (subst (λ t. Assigned base t q Q) (sym (after-automaton s x)) a)
+    assigned-automaton_first x a = behind-none (one_automaton x) refl refl (subst (λ t. Assigned base know t q Q) (sym (after-automaton s x)) a)
 
 -- ---- uses
 
@@ -219,11 +235,23 @@ abbrev pub PartsUsed : FlatForm → (ℕ → Context) → ℕ → Form → Type 
 PartsUsed f context n (If c x y) = UsedSo f context c (PartOf n) × UsedSo f context x (BranchOf n c true) × UsedSo f context y (BranchOf n c false)
 PartsUsed f context n form = AllByRecursion (λ k. UsedSo f context k (PartOf n)) (parts form)
 
+-- the place that a `last` names isn't in the copy of a call that is combinatorial with `last`
+abbrev pub LastOutside : FlatForm → (ℕ → Context) → ℕ → Type 0
+LastOutside f context p = (call : ℕ) → place_call f p ≡ Some call → context call ≡ WithLast → ⊥
+
+-- what is asked of the form of occurrence number `n` beside; an `up` and an event are used
+abbrev pub FormFits : FlatForm → (ℕ → Context) → ℕ → Form → Type 0
+FormFits f context n (Last p) = LastOutside f context p
+FormFits f context n (Up s) = uses_of f n ≡ [] → ⊥
+FormFits f context n (Fired ks) = uses_of f n ≡ [] → ⊥
+FormFits f context n form = Unit {0}
+
 -- an occurrence is allowed in its context; without a use it has the context of its body; its parts are what it asks for
 pub record OccRegular (f : FlatForm) (context : ℕ → Context) (n : ℕ) (occ : Occ) : Type 0 where
   pub allowed : IsAllowed (context n) occ.form
   pub unused : uses_of f n ≡ [] → context n ≡ called_context context (context_of_block (is_hybrid_block f occ.block)) occ.call
   pub parts : PartsUsed f context n occ.form
+  pub fits : FormFits f context n occ.form
 
 -- what the reset arms of a `der` name, of which the first has the number `n`; `events` are the events of all
 abbrev pub ArmsUsed : FlatForm → (ℕ → Context) → Option ℕ → List ℕ → ℕ → List DerArm → Type 0

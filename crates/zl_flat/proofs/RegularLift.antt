@@ -20,7 +20,7 @@ use Rattle.zl_ast.specs.declared.program.DeclKind.{DeclKind}
 use Rattle.zl_ast.specs.declared.program.DeclKind.TheVariants as decl
 use Rattle.zl_ast.specs.Kinds as kinds
 use Rattle.zl_ast.specs.Kinds.{Declared, Misplaced, unless_allowed, all_misplaced, expr_misplaced, link_misplaced, eqn_misplaced, arm_misplaced, body_misplaced, state_misplaced, exprs_misplaced, eqns_misplaced, decl_misplaced}
-use Rattle.zl_flat.proofs.WellFormedExprTrees.{none-left, none-right}
+use Rattle.zl_flat.proofs.RulesKept.{none-left, none-right}
 use Rattle.zl_flat.proofs.RegularGround.{argument-context}
 
 -- nothing and nothing is nothing

@@ -1,5 +1,5 @@
 -- The flat form of `main` is regular.
-use Rattle.std.proofs.Common.{◌≡◌, ℕ, ◌+◌, true, List, [], ◌∷◌, ◌++◌, map, length, Some, refl, sym, ap, subst, ◌∙◌}
+use Rattle.std.proofs.Common.{◌≡◌, ℕ, ◌+◌, Bool, true, false, List, [], ◌∷◌, ◌++◌, map, length, Some, refl, sym, ap, subst, ◌∙◌}
 use Rattle.std.specs.List.{AllByRecursion}
 use Rattle.zl_value.specs.Lists.{listed}
 use Rattle.zl_ast.specs.declared.program.DeclKind.TheVariants as decl
@@ -9,9 +9,11 @@ use Rattle.zl_ast.specs.NamesRules.{is_hybrid, built_in, inside_of, declared_wit
 use Rattle.zl_ast.specs.Kinds as kinds
 use Rattle.zl_ast.specs.Kinds.{Declared, decl_misplaced, decls_misplaced}
 use Rattle.zl_meaning.specs.FlatForm.{FlatForm}
+use Rattle.zl_meaning.specs.Copies.{KeepsCopies}
 use Rattle.zl_meaning.specs.Regular.{Context, context_of_block, IsRegular}
 use Rattle.zl_flat.specs.Parts.{past_block, start}
 use Rattle.zl_flat.specs.Expansion.{Scoped, found, with_sizes, with_callees, variables_from, input_definers, body_copy, instance, main_here, main_block, main_parts, MainOf, sizes_of, main_size, main_form, form_of, result_places}
+use Rattle.zl_flat.proofs.UsesBranches.{HasContexts}
 use Rattle.zl_flat.proofs.WellFormedParts.{block-first, behind-block}
 use Rattle.zl_flat.proofs.WellFormedDecls.{known_after}
 use Rattle.zl_flat.proofs.WellFormedSizesForm.{callees-make, built-ins-known, sized-instance, main-makes}
@@ -19,9 +21,9 @@ use Rattle.zl_flat.proofs.WellFormedCopies.{IsInOrder, order-counted, all-counte
 use Rattle.zl_flat.proofs.RegularGround.{assigned-map, assigned-block_first, GivenUsed, lying, regular, lies-sit, IsRegularIn, BodyIs, block-at}
 use Rattle.zl_flat.proofs.RegularLift.{decl-lifts}
 use Rattle.zl_flat.proofs.RegularExprs.{CopyHolds}
-use Rattle.zl_flat.proofs.RegularForm.{parts-lie, form-regular, context_at, found-contexts}
+use Rattle.zl_flat.proofs.RegularForm.{parts-lie, form-contexts, form-regular, context_at, found-contexts}
 use Rattle.zl_flat.proofs.RegularPlaces.{copy-in_call}
-use Rattle.zl_flat.proofs.RegularDecls.{IsKept, inside-of, own-distinct, knows-inside, body_copy-regular}
+use Rattle.zl_flat.proofs.RegularDecls.{IsKept, inside-of, own-distinct, knows-inside, is_calm, copy_known, outside-known, last-outside, body_copy-regular}
 use Rattle.zl_flat.proofs.RegularEqnTrees as tree
 use Rattle.zl_flat.proofs.RegularCallees.{declared_after, AllKept, before-regular}
 
@@ -49,9 +51,10 @@ all-in-order names k declared [] h = tt
 all-in-order names k declared (d ∷ ds) h = let first = h.0 in (first.order, all-in-order names (declared_with k d.decl) (kinds.declared_with declared d.decl) ds h.1)
 
 module _ (names : List (List ℕ)) (m : MainOf) (h : IsMainPlaced names m) where
-  pub main-regular : IsRegular (main_form names m)
+  -- its occurrences have contexts, it is regular with them if it keeps copies
+  pub main-regular : (HasContexts (main_form names m) → KeepsCopies (main_form names m)) → IsRegular (main_form names m)
   unfolding main_form main_parts past_block
-  main-regular =
+  main-regular copies =
       let base = (main_size m).occs in
       let cs = with_callees base names [] [] m.before in
       let zs = with_sizes [] m.before in
@@ -84,13 +87,23 @@ module _ (names : List (List ℕ)) (m : MainOf) (h : IsMainPlaced names m) where
       let hb = block-at f 0 own both.0 in
       let callable : kinds.allows_call (Some d.kind) kinds.hybrid ≡ true = ap (λ k. kinds.allows_call (Some k) kinds.hybrid) h.is_hybrid in
       let lifted = decl-lifts declared d kinds.hybrid callable main.placed in
-      let b = body_copy-regular f base names i (inside_of k d) declared (knows-inside f base names (found cs) k declared d knows) d definers kinds.hybrid a.visible order.some a.covers a.entries a.results a.equations lifted.0 lifted.1 main.crossed here t hb hybrid copied.placed both.1 in
+      let know = copy_known f base names d.kind here.call in
+      let calm = is_calm f base names d.kind in
+      let busy : calm ≡ false = ap (is_calm f base names) h.is_hybrid in
+      let b = body_copy-regular f base names know i (inside_of k d) declared (knows-inside f base names (found cs) k declared d knows) calm (λ e id v is. last-outside f base names d.kind here.call v.place e (copied.placed id v is)) d definers kinds.hybrid a.visible order.some a.covers a.entries a.results a.equations lifted.0 lifted.1 (λ e. absurd (differ calm e busy)) main.crossed here t hb hybrid copied.placed both.1 in
       let Q : (ℕ → Context) → Type 0 = λ context. BodyIs f context here kinds.hybrid → AllByRecursion (GivenUsed f context) definers → CopyHolds f base context t kinds.hybrid copy in
-      let all = assigned-map base start p Q (λ context. IsRegularIn f base context start p)
+      let all = assigned-map base know start p Q (λ context. IsRegularIn f base context start p)
       (λ context g.
       let copied = g (ap context_of_block hybrid) (inputs-used f context 0 d.params) in
       block-first (regular f base context) start own copy.parts (tt, tt) copied.parts)
-      (assigned-block_first base start copy.parts Q own b.assigned) in
+      (assigned-block_first base know start copy.parts Q own b.assigned) in
       let found_in = all.contexts in
       let context = context_at (found_in.occs ++ found_in.hidden) in
-      form-regular p ins outs base context (all.holds context (found-contexts p base found_in (sym many.occs) all.fits)) (sym many.occs)
+      let known = outside-known f base names d.kind context in
+      let regular = all.holds context (found-contexts p base found_in (sym many.occs) all.fits) known in
+      let contexts = form-contexts p ins outs base context regular (sym many.occs) in
+      form-regular p ins outs base context regular (sym many.occs) (copies contexts)
+    where
+      differ : (b : Bool) → b ≡ true → b ≡ false → ⊥
+      differ true e g = cc
+      differ false e g = cc

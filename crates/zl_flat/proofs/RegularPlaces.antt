@@ -15,7 +15,7 @@ use Rattle.zl_flat.specs.Numbering.{decl_numbering}
 use Rattle.zl_flat.specs.Instances.{Callee, Instance}
 use Rattle.zl_flat.specs.Expansion.{Scoped, body_copy, instance}
 use Rattle.zl_flat.proofs.WellFormedGround.{Sits}
-use Rattle.zl_flat.proofs.WellFormedExprTrees.{IsVariable}
+use Rattle.zl_flat.proofs.RulesKept.{IsVariable}
 use Rattle.zl_flat.proofs.WellFormedSizes.{IsSized}
 use Rattle.zl_flat.proofs.WellFormedMentions.{Mention, as_entries}
 use Rattle.zl_flat.proofs.WellFormedFirsts.{Distinct, HasNumber}

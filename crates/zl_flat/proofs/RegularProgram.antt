@@ -19,9 +19,11 @@ use Rattle.zl_ast.specs.Parsed.{IsParsed}
 use Rattle.zl_ast.specs.Assignments.{IsTyping}
 use Rattle.zl_ast.specs.declared.constraint.Equality.{Equality}
 use Rattle.zl_ast.proofs.TreeLaws.{places_grow}
+use Rattle.zl_meaning.specs.Copies.{KeepsCopies}
 use Rattle.zl_meaning.specs.Regular.{IsRegular}
 use Rattle.zl_flat.specs.Expansion.{Scoped, scoped, MainOf, behind, main_of, main_form, program_main}
-use Rattle.zl_flat.proofs.WellFormedExprTrees.{none-left, none-right, kept-if}
+use Rattle.zl_flat.proofs.UsesBranches.{HasContexts}
+use Rattle.zl_flat.proofs.RulesKept.{none-left, none-right, kept-if}
 use Rattle.zl_flat.proofs.WellFormedDecls.{known_after}
 use Rattle.zl_flat.proofs.WellFormedCopies.{IsInOrder}
 use Rattle.zl_flat.proofs.WellFormedOrder.{IsTypedInOrder, scoped-decls, decls-in-order, decls-kept}
@@ -122,12 +124,12 @@ parsed-in-order p types es parsed kept typing = record {
   some = all-map IsWhole (λ (d : Decl). 0 < length d.results) (λ d h. h.some) p.decls (parsed-whole p parsed);
 }
 
--- the flat form of the `main` of a typed program that breaks no rule of names or kinds is regular
-pub program-regular : (p : Program) (types : List (List Ty)) (es : List Equality) → IsParsed p → violations p ≡ [] → IsTyping es (scopes p) types → misplaced p ≡ [] → (m : MainOf) → program_main p (scopes p) types ≡ Some m → IsRegular (main_form p.names m)
-program-regular p types es parsed named typing placed m is =
+-- the flat form of the `main` of a typed program that breaks no rule of names or kinds is regular, if it keeps copies
+pub program-regular : (p : Program) (types : List (List Ty)) (es : List Equality) → IsParsed p → violations p ≡ [] → IsTyping es (scopes p) types → misplaced p ≡ [] → (m : MainOf) → program_main p (scopes p) types ≡ Some m → (HasContexts (main_form p.names m) → KeepsCopies (main_form p.names m)) → IsRegular (main_form p.names m)
+program-regular p types es parsed named typing placed m is copies =
     let typed = parsed-in-order p types es parsed named typing in
     let ds = scoped p.decls (scopes p) types in
     let same = scoped-decls typed.equalities p.decls types typed.typed in
     let kept = all-kept p.names (built_in p.names) kinds.none_declared ds (decls-in-order p types typed) (decls-kept p types typed) (subst (λ es. decls_misplaced kinds.none_declared es ≡ []) (sym same) placed) (scoped-crossed p.decls (scopes p) types (parsed-whole p parsed)) in
     let split = split-kept p.names (built_in p.names) kinds.none_declared ds m is kept in
-    main-regular p.names m (record { before = split.before; main = split.main; is_hybrid = split.is_hybrid })
+    main-regular p.names m (record { before = split.before; main = split.main; is_hybrid = split.is_hybrid }) copies

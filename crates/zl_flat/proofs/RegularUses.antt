@@ -17,11 +17,11 @@ use Rattle.zl_meaning.specs.declared.place.Definer.TheVariants.{Input, Plain, De
 use Rattle.zl_meaning.specs.declared.place.DerArm.{DerArm}
 use Rattle.zl_meaning.specs.declared.place.PlaceInfo.{PlaceInfo}
 use Rattle.zl_meaning.specs.declared.occurrence.Form.{Form}
-use Rattle.zl_meaning.specs.declared.occurrence.Form.TheVariants.{Lit, Read, Last, Op as Apply, If, Arrow, Pre, Result, Up, Fired}
+use Rattle.zl_meaning.specs.declared.occurrence.Form.TheVariants.{Lit, Read, Last, Op as Apply, If, Arrow, Pre, Result, Up, Fired, Step}
 use Rattle.zl_meaning.specs.declared.occurrence.Occ.{Occ}
 use Rattle.zl_meaning.specs.declared.occurrence.SiteInfo.{SiteInfo}
 use Rattle.zl_flat.proofs.WellFormedParts.{AllFrom, all-append}
-use Rattle.zl_flat.proofs.WellFormedExprTrees.{none-left, none-right}
+use Rattle.zl_flat.proofs.RulesKept.{none-left, none-right}
 use Rattle.zl_flat.proofs.RegularGround.{UsedSo, PartsUsed, ArmsUsed, DefinerUsed, TestUsed, KindUsed, MovesRegular}
 
 -- ---- lists
@@ -253,6 +253,7 @@ module _ (f : FlatForm) (context : ℕ → Context) (k : ℕ) where
   parts-used n (Result x) h = operands-used n (x ∷ []) h
   parts-used n (Up s) h = operands-used n [] h
   parts-used n (Fired ks) h = operands-used n ks h
+  parts-used n Step h = operands-used n [] h
 
   -- so does a part of one of several
   occs-used : (m n : ℕ) → m ≡ n → (xs : List Occ) → AllFrom (λ j (x : Occ). PartsUsed f context j x.form) m xs → AllUsed (uses_in_occs k n xs)

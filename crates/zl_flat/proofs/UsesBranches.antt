@@ -3,19 +3,21 @@ use Rattle.std.proofs.Common.{◌≡◌, ◌⊎◌, inl, inr, ℕ, zero, suc, �
 use Rattle.std.specs.List.{AllByRecursion}
 use Rattle.std.specs.Option.{option_map, option_and_then}
 use Rattle.zl_value.specs.Lists.{Has}
-use Rattle.zl_meaning.specs.FlatForm.{FlatForm, call_of, place_call}
-use Rattle.zl_meaning.specs.Uses.{Use, PartOf, BranchOf, DefinerOf, SlopeOf, EventOf, StartOf, ResetOf, TestOf, ArgumentOf, AgainOf, parts, is_test, uses_of}
+use Rattle.zl_meaning.specs.FlatForm.{FlatForm, HasForm, call_of, place_call}
+use Rattle.zl_meaning.specs.Uses.{Use, PartOf, BranchOf, DefinerOf, SlopeOf, EventOf, StartOf, ResetOf, TestOf, ArgumentOf, AgainOf, IsUse, parts, uses_of}
 use Rattle.zl_meaning.specs.WellFormed.{named_in, named_by, HasHeights, KeepsBranches}
 use Rattle.zl_meaning.specs.Branches.{IsPart, Under, Is, Part, Called, InBranch, CallInBranch}
 use Rattle.zl_meaning.specs.Single.{IsOneUse, Unused, Once, OfCall, OfBranches}
-use Rattle.zl_meaning.specs.Regular.{Context, Plainly, WithLast, Discrete, Hybrid, context_of_block, is_hybrid_block, body_context, called_context, branch_context, part_context, form_in, IsAllowed, IsUseIn, IsRegularAt, IsRegular}
+use Rattle.zl_meaning.specs.Regular.{Context, Plainly, WithLast, Discrete, Hybrid, context_of_block, is_hybrid_block, body_context, called_context, branch_context, part_context, form_in, IsAllowed, IsUseIn, IsRegularAt}
 use Rattle.zl_meaning.specs.declared.place.Definer.{Definer}
 use Rattle.zl_meaning.specs.declared.place.Definer.TheVariants.{Input, Plain, Der, Start}
 use Rattle.zl_meaning.specs.declared.place.PlaceInfo.{PlaceInfo}
 use Rattle.zl_meaning.specs.declared.occurrence.Form.{Form}
-use Rattle.zl_meaning.specs.declared.occurrence.Form.TheVariants.{Lit, Read, Last, Op as Apply, If, Arrow, Pre, Result, Up, Fired}
+use Rattle.zl_meaning.specs.declared.occurrence.Form.TheVariants.{Lit, Read, Last, Op as Apply, If, Arrow, Pre, Result, Up, Fired, Step}
 use Rattle.zl_meaning.specs.declared.occurrence.Occ.{Occ}
-use Rattle.zl_flat.proofs.UsesNamed.{has-none, has-cases, all-has, IsPartUse, IsDefinerUse, part-used, named-used, test-used, slope-used, Source, all-sources}
+use Rattle.zl_meaning.specs.declared.occurrence.SiteInfo.{SiteInfo}
+use Rattle.zl_meaning.proofs.UseCases.{use-of-listed, listed-of-use}
+use Rattle.zl_flat.proofs.UsesNamed.{listed-unused, has-none, has-cases, all-has, IsPartUse, IsDefinerUse, part-used, named-used, slope-used, Source, all-sources}
 
 -- ---- calls
 
@@ -54,17 +56,43 @@ pub data Reaches (f : FlatForm) (target : Option ℕ) : Option ℕ → Type 0 wh
   There : Reaches f target target
   Outer : (c : ℕ) (occ : Occ) → slice_get f.occs c ≡ Some occ → Reaches f target occ.call → Reaches f target (Some c)
 
--- occurrences, definers and `last`s stand in the calls of what they belong to
+-- this call, if there is one, is an occurrence that is a call
+abbrev pub IsCall : FlatForm → Option ℕ → Type 0
+IsCall f None = Unit {0}
+IsCall f (Some call) = (result : ℕ) × HasForm f call (Result result)
+
+-- the argument of site number `n` has the call of an `up` that has this site
+pub record SiteCalled (f : FlatForm) (n arg : ℕ) : Type 0 where
+  pub number : ℕ
+  pub occ : Occ
+  pub is : slice_get f.occs number ≡ Some occ
+  pub form : occ.form ≡ Up n
+  pub called : HasCall f occ.call arg
+
+-- a plain definer of a place in the copy of a call doesn't name the result of that call
+abbrev pub IsNoResult : FlatForm → Option ℕ → Definer → Type 0
+IsNoResult f call d = (n k b : ℕ) → call ≡ Some n → HasForm f n (Result k) → d ≡ Plain b k → ⊥
+
+-- occurrences, definers, names and `last`s stand in the calls of what they belong to
 pub record KeepsCalls (f : FlatForm) : Type 0 where
   pub again : f.again ≡ []
   pub parts : (n : ℕ) (occ : Occ) → slice_get f.occs n ≡ Some occ → PartsCalled f n occ.call occ.form
   pub definers : (p : ℕ) (place : PlaceInfo) → slice_get f.places p ≡ Some place → AllByRecursion (DefinerCalled f place.call) place.definers
   pub lasts : (k p : ℕ) (occ : Occ) → slice_get f.occs k ≡ Some occ → occ.form ≡ Last p → Reaches f (place_call f p) occ.call
+  pub names : (k p : ℕ) (occ : Occ) → slice_get f.occs k ≡ Some occ → occ.form ≡ Read p → Reaches f (place_call f p) occ.call
+  pub calls : (k : ℕ) (occ : Occ) → slice_get f.occs k ≡ Some occ → IsCall f occ.call
+  pub sites : (n : ℕ) (site : SiteInfo) → slice_get f.sites n ≡ Some site → SiteCalled f n site.arg
+  pub results : (p : ℕ) (place : PlaceInfo) → slice_get f.places p ≡ Some place → AllByRecursion (IsNoResult f place.call) place.definers
 
 -- ---- contexts
 
+-- occurrences have contexts, as the tables say
+pub record HasContexts (f : FlatForm) : Type 0 where
+  pub context : ℕ → Context
+  pub occs : (k : ℕ) (occ : Occ) → slice_get f.occs k ≡ Some occ → IsRegularAt f context (is_hybrid_block f occ.block) k occ
+
 -- combinatorial, with `last` or without
-abbrev IsCalm : Context → Type 0
+abbrev pub IsCalm : Context → Type 0
 IsCalm Plainly = Unit {0}
 IsCalm WithLast = Unit {0}
 IsCalm Discrete = ⊥
@@ -85,14 +113,14 @@ no-test-in block Discrete h g = absurd h
 no-test-in block Hybrid h g = absurd h
 
 -- a branch is calm
-calm-branch : (c : Context) → IsCalm (branch_context c)
+pub calm-branch : (c : Context) → IsCalm (branch_context c)
 calm-branch Plainly = tt
 calm-branch WithLast = tt
 calm-branch Discrete = tt
 calm-branch Hybrid = tt
 
 -- the parts of what is calm are
-calm-part : (block c : Context) (form : Form) → IsCalm c → IsAllowed c form → IsCalm (part_context block c (Some form))
+pub calm-part : (block c : Context) (form : Form) → IsCalm c → IsAllowed c form → IsCalm (part_context block c (Some form))
 calm-part block c (Lit v) h a = h
 calm-part block c (Read p) h a = h
 calm-part block c (Last p) h a = h
@@ -103,6 +131,7 @@ calm-part block c (Pre x) h a = absurd (subst IsCalm a h)
 calm-part block c (Result x) h a = calm-body block c h
 calm-part block c (Up s) h a = h
 calm-part block c (Fired ks) h a = h
+calm-part block c Step h a = absurd a
 
 -- ---- one use
 
@@ -120,19 +149,19 @@ differ-parts n c ArgumentOf h g = h
 differ-parts n c AgainOf h g = h
 
 -- one of two
-of-two : (R : Type 0) (x y u : Use) → Has (x ∷ y ∷ []) u → (x ≡ u → R) → (y ≡ u → R) → R
+pub of-two : (R : Type 0) (x y u : Use) → Has (x ∷ y ∷ []) u → (x ≡ u → R) → (y ≡ u → R) → R
 of-two R x y u h first second = has-cases R x (y ∷ []) u h first (λ i. has-cases R y [] u i second (λ j. absurd (has-none u j)))
 
 -- the only one
-of-one : (x u : Use) → Has (x ∷ []) u → x ≡ u
+pub of-one : (x u : Use) → Has (x ∷ []) u → x ≡ u
 of-one x u h = has-cases (x ≡ u) x [] u h (λ e. e) (λ i. absurd (has-none u i))
 
 -- a test has no other use
 only-test : (f : FlatForm) (k : ℕ) (us : List Use) (u : Use) → IsOneUse f k us → Has us TestOf → Has us u → u ≡ TestOf
 only-test f k us u Unused h i = absurd (has-none TestOf h)
 only-test f k us u (Once of) h i = sym (of-one of u i) ∙ of-one of TestOf h
-only-test f k us u (OfCall whole occ call is form) h i = absurd (of-two ⊥ (PartOf whole) (DefinerOf call) TestOf h (λ e. cc) (λ e. cc))
-only-test f k us u (OfBranches whole condition p occ is form) h i = absurd (of-two ⊥ (BranchOf whole condition true) (BranchOf whole condition false) TestOf h (λ e. cc) (λ e. cc))
+only-test f k us u (OfCall whole is unused) h i = absurd (of-two ⊥ (PartOf whole) (DefinerOf (call_of f whole)) TestOf h (λ e. cc) (λ e. cc))
+only-test f k us u (OfBranches whole condition p is) h i = absurd (of-two ⊥ (BranchOf whole condition true) (BranchOf whole condition false) TestOf h (λ e. cc) (λ e. cc))
 
 -- a part that a definer names too is the result of a call
 pub record IsResultOf (f : FlatForm) (k n : ℕ) (u : Use) : Type 0 where
@@ -145,17 +174,17 @@ pub record IsResultOf (f : FlatForm) (k n : ℕ) (u : Use) : Type 0 where
 part-and-definer : (f : FlatForm) (k n : ℕ) (c : Option ℕ) (us : List Use) (u v : Use) → IsOneUse f k us → Has us u → IsPartUse n u → Has us v → IsDefinerUse c v → IsResultOf f k n u
 part-and-definer f k n c us u v Unused h p i d = absurd (has-none u h)
 part-and-definer f k n c us u v (Once of) h p i d = absurd (differ-parts n c of (subst (IsPartUse n) (sym (of-one of u h)) p) (subst (IsDefinerUse c) (sym (of-one of v i)) d))
-part-and-definer f k n c us u v (OfCall whole occ call is form) h p i d =
-    of-two (IsResultOf f k n u) (PartOf whole) (DefinerOf call) u h
-    (λ e. let same : whole ≡ n = subst (IsPartUse n) (sym e) p in record { occ = occ; is = subst (λ m. slice_get f.occs m ≡ Some occ) same is; form = form; use_is = sym e ∙ ap (λ m. PartOf m) same })
+part-and-definer f k n c us u v (OfCall whole is unused) h p i d =
+    of-two (IsResultOf f k n u) (PartOf whole) (DefinerOf (call_of f whole)) u h
+    (λ e. let same : whole ≡ n = subst (IsPartUse n) (sym e) p in record { occ = is.0; is = subst (λ m. slice_get f.occs m ≡ Some is.0) same is.1; form = is.2; use_is = sym e ∙ ap (λ m. PartOf m) same })
     (λ e. absurd (subst (IsPartUse n) (sym e) p))
-part-and-definer f k n c us u v (OfBranches whole condition q occ is form) h p i d =
+part-and-definer f k n c us u v (OfBranches whole condition q is) h p i d =
     absurd (of-two ⊥ (BranchOf whole condition true) (BranchOf whole condition false) v i (λ e. subst (IsDefinerUse c) (sym e) d) (λ e. subst (IsDefinerUse c) (sym e) d))
 
 -- ---- a form that keeps calls
 
 -- what has a call is there
-the-call : (f : FlatForm) (k c : ℕ) → call_of f k ≡ Some c → HasCall f (Some c) k
+pub the-call : (f : FlatForm) (k c : ℕ) → call_of f k ≡ Some c → HasCall f (Some c) k
 the-call f k c e = by_occ (slice_get f.occs k) refl e
   where
     by_occ : (o : Option Occ) → slice_get f.occs k ≡ o → option_and_then (λ (occ : Occ). occ.call) o ≡ Some c → HasCall f (Some c) k
@@ -163,16 +192,16 @@ the-call f k c e = by_occ (slice_get f.occs k) refl e
     by_occ (Some occ) is g = record { occ = occ; is = is; call_is = g }
 
 -- one number has one occurrence
-same-occ : (a b : Occ) (o : Option Occ) → o ≡ Some a → o ≡ Some b → a ≡ b
+pub same-occ : (a b : Occ) (o : Option Occ) → o ≡ Some a → o ≡ Some b → a ≡ b
 same-occ a b o h g = cc
 
 -- one option has one number
-same-number : (a b : ℕ) → Some a ≡ Some b → a ≡ b
+pub same-number : (a b : ℕ) → Some a ≡ Some b → a ≡ b
 same-number a b h = cc
 
 module _ (f : FlatForm) (keeps : KeepsCalls f) where
   -- a part has its whole's call, or is the result of the call that is the whole
-  part-call : (k n : ℕ) (h : IsPart f k n) → HasCall f h.occ.call k ⊎ HasCall f (Some n) k
+  pub part-call : (k n : ℕ) (h : IsPart f k n) → HasCall f h.occ.call k ⊎ HasCall f (Some n) k
   part-call k n h = by_form h.occ.form refl (keeps.parts n h.occ h.is) h.part
     where
       others : (form : Form) → AllByRecursion (HasCall f h.occ.call) (parts form) → Has (parts form) k → HasCall f h.occ.call k ⊎ HasCall f (Some n) k
@@ -183,11 +212,11 @@ module _ (f : FlatForm) (keeps : KeepsCalls f) where
       by_form form e a i = others form a i
 
   -- the result of a call has it
-  result-call : (k n : ℕ) (occ : Occ) → slice_get f.occs n ≡ Some occ → occ.form ≡ Result k → HasCall f (Some n) k
+  pub result-call : (k n : ℕ) (occ : Occ) → slice_get f.occs n ≡ Some occ → occ.form ≡ Result k → HasCall f (Some n) k
   result-call k n occ is form = subst (PartsCalled f n occ.call) form (keeps.parts n occ is)
 
   -- what a definer names has the call of the place, or is a result of a call that has
-  named-call : (p k : ℕ) (place : PlaceInfo) (d : Definer) → slice_get f.places p ≡ Some place → Has place.definers d → Has (named_by d) k → HasCall f place.call k ⊎ IsOfUnused f place.call k
+  pub named-call : (p k : ℕ) (place : PlaceInfo) (d : Definer) → slice_get f.places p ≡ Some place → Has place.definers d → Has (named_by d) k → HasCall f place.call k ⊎ IsOfUnused f place.call k
   named-call p k place d is has named = by_definer d (all-has (DefinerCalled f place.call) place.definers d (keeps.definers p place is) has) named
     where
       by_definer : (d : Definer) → DefinerCalled f place.call d → Has (named_by d) k → HasCall f place.call k ⊎ IsOfUnused f place.call k
@@ -206,7 +235,7 @@ module _ (f : FlatForm) (keeps : KeepsCalls f) where
 
   -- ---- contexts
 
-  module _ (regular : IsRegular f) (heights : HasHeights f) where
+  module _ (regular : HasContexts f) (heights : HasHeights f) where
     -- the contexts of occurrences
     abbrev context : ℕ → Context
     context = regular.context
@@ -226,8 +255,8 @@ module _ (f : FlatForm) (keeps : KeepsCalls f) where
         let block = context_of_block (is_hybrid_block f occ.block) in
         let w = regular.occs n whole there in
         let form : form_in f m ≡ Some whole.form = ap (form_in f) e ∙ ap (option_map (λ (o : Occ). o.form)) there in
-        subst IsCalm (sym (a.contexts (PartOf m) has ∙ ap (λ j. part_context block (context j) (form_in f m)) e ∙ ap (part_context block (context n)) form)) (calm-part block (context n) whole.form h w.allowed)
-    calm-of-part k n occ whole (BranchOf m condition side) is there has e h = let a = regular.occs k occ is in subst IsCalm (sym (a.contexts (BranchOf m condition side) has)) (calm-branch (context m))
+        subst IsCalm (sym (a.contexts (PartOf m) (use-of-listed f k (PartOf m) has) ∙ ap (λ j. part_context block (context j) (form_in f m)) e ∙ ap (part_context block (context n)) form)) (calm-part block (context n) whole.form h w.allowed)
+    calm-of-part k n occ whole (BranchOf m condition side) is there has e h = let a = regular.occs k occ is in subst IsCalm (sym (a.contexts (BranchOf m condition side) (use-of-listed f k (BranchOf m condition side) has))) (calm-branch (context m))
     calm-of-part k n occ whole (DefinerOf call) is there has e h = absurd e
     calm-of-part k n occ whole (SlopeOf call) is there has e h = absurd e
     calm-of-part k n occ whole (EventOf call) is there has e h = absurd e
@@ -249,7 +278,7 @@ module _ (f : FlatForm) (keeps : KeepsCalls f) where
         let whole_is : a.whole ≡ c = same-number a.whole c (sym a.call_is ∙ ap (λ (o : Occ). o.call) same ∙ e) in
         let w = regular.occs a.whole a.own a.own_is in
         let block : occ.block ≡ a.own.block = ap (λ (o : Occ). o.block) (sym same) ∙ a.block in
-        let same_context : context k ≡ context a.whole = g ∙ ap (λ b. called_context context (context_of_block (is_hybrid_block f b)) call) block ∙ ap (called_context context (context_of_block (is_hybrid_block f a.own.block))) (sym a.own_call) ∙ sym (w.unused a.unused) in
+        let same_context : context k ≡ context a.whole = g ∙ ap (λ b. called_context context (context_of_block (is_hybrid_block f b)) call) block ∙ ap (called_context context (context_of_block (is_hybrid_block f a.own.block))) (sym a.own_call) ∙ sym (w.unused (listed-unused f a.whole a.unused)) in
         subst IsCalm (sym (same_context ∙ ap context whole_is)) h
 
     -- no reset arm stands in the copy of a calm call
@@ -262,10 +291,10 @@ module _ (f : FlatForm) (keeps : KeepsCalls f) where
         let call_is : s.place.call ≡ Some c = sym own.call_is ∙ ap (λ (o : Occ). o.call) same ∙ e in
         let r = regular.occs s.slope slope.occ slope.is in
         let block = context_of_block (is_hybrid_block f slope.occ.block) in
-        subst IsCalm (r.equations (SlopeOf s.place.call) (slope-used f s.number s.place s.block s.slope s.resets s.is s.has)) (calm-called block c s.place.call call_is h)
+        subst IsCalm (r.equations (SlopeOf s.place.call) (use-of-listed f s.slope (SlopeOf s.place.call) (slope-used f s.number s.place s.block s.slope s.resets s.is s.has))) (calm-called block c s.place.call call_is h)
 
     -- what stands in the copy of a calm call is calm
-    calm-inside : (n k c : ℕ) (occ : Occ) → slice_get f.occs k ≡ Some occ → occ.call ≡ Some c → IsCalm (context c) → heights.height c ≤ heights.height k + n → IsCalm (context k)
+    pub calm-inside : (n k c : ℕ) (occ : Occ) → slice_get f.occs k ≡ Some occ → occ.call ≡ Some c → IsCalm (context c) → heights.height c ≤ heights.height k + n → IsCalm (context k)
     calm-inside zero k c occ is e h le = let lt = heights.calls k c occ is e in absurd (omega (arith, lt, le))
     calm-inside (suc n) k c occ is e h le = by_uses (uses_of f k) refl (λ m whole there call_is more. calm-inside n m c whole there call_is h more)
       where
@@ -289,31 +318,32 @@ module _ (f : FlatForm) (keeps : KeepsCalls f) where
 
         by_use : (u : Use) → Has (uses_of f k) u → Source f k u → Later → IsCalm (context k)
         by_use (PartOf m) has s later = calm-of-part k m occ s.occ (PartOf m) is s.is has refl (calm-whole m s later (part-call k m s))
-        by_use (BranchOf m condition side) has s later = subst IsCalm (sym (at.contexts (BranchOf m condition side) has)) (calm-branch (context m))
-        by_use (DefinerOf call) has s later = calm-of-definer k c occ call is e h (subst (λ o. HasCall f o k ⊎ IsOfUnused f o k) s.call_is (named-call s.number k s.place s.definer s.is s.has s.named)) (at.contexts (DefinerOf call) has)
-        by_use (SlopeOf call) has s later = calm-of-definer k c occ call is e h (subst (λ o. HasCall f o k ⊎ IsOfUnused f o k) s.call_is (named-call s.number k s.place s.definer s.is s.has s.named)) (at.contexts (SlopeOf call) has)
+        by_use (BranchOf m condition side) has s later = subst IsCalm (sym (at.contexts (BranchOf m condition side) (use-of-listed f k (BranchOf m condition side) has))) (calm-branch (context m))
+        by_use (DefinerOf call) has s later = calm-of-definer k c occ call is e h (subst (λ o. HasCall f o k ⊎ IsOfUnused f o k) s.call_is (named-call s.number k s.place s.definer s.is s.has s.named)) (at.contexts (DefinerOf call) (use-of-listed f k (DefinerOf call) has))
+        by_use (SlopeOf call) has s later = calm-of-definer k c occ call is e h (subst (λ o. HasCall f o k ⊎ IsOfUnused f o k) s.call_is (named-call s.number k s.place s.definer s.is s.has s.named)) (at.contexts (SlopeOf call) (use-of-listed f k (SlopeOf call) has))
         by_use (EventOf call) has s later = absurd (no-reset k c occ call is e h s)
-        by_use (StartOf call b) has s later = subst IsCalm (sym (at.contexts (StartOf call b) has)) tt
-        by_use (ResetOf call events arm) has s later = subst IsCalm (sym (at.contexts (ResetOf call events arm) has)) tt
-        by_use TestOf has s later = absurd (no-test-called block c occ.call e h (at.equations TestOf has))
-        by_use ArgumentOf has s later = subst IsCalm (sym (at.contexts ArgumentOf has)) tt
+        by_use (StartOf call b) has s later = subst IsCalm (sym (at.contexts (StartOf call b) (use-of-listed f k (StartOf call b) has))) tt
+        by_use (ResetOf call events arm) has s later = subst IsCalm (sym (at.contexts (ResetOf call events arm) (use-of-listed f k (ResetOf call events arm) has))) tt
+        by_use TestOf has s later = absurd (no-test-called block c occ.call e h (at.equations TestOf (use-of-listed f k TestOf has)))
+        by_use ArgumentOf has s later = subst IsCalm (sym (at.contexts ArgumentOf (use-of-listed f k ArgumentOf has))) tt
         by_use AgainOf has s later = absurd s
 
         by_uses : (us : List Use) → uses_of f k ≡ us → Later → IsCalm (context k)
-        by_uses [] none later = subst IsCalm (sym (at.unused none)) (calm-called block c occ.call e h)
+        by_uses [] none later = subst IsCalm (sym (at.unused (listed-unused f k none))) (calm-called block c occ.call e h)
         by_uses (u ∷ us) some later =
             let has : Has (uses_of f k) u = subst (λ xs. Has xs u) (sym some) (record { index = 0; is = refl }) in
             by_use u has (all-has (Source f k) (uses_of f k) u (all-sources f k keeps.again) has) later
 
     -- what stands in a branch is calm
     calm-under : (whole condition : ℕ) (side : Bool) (k : ℕ) → Under f (BranchOf whole condition side) k → IsCalm (context k)
-    calm-under whole condition side k (Is j has) =
+    calm-under whole condition side k (Is j named) =
+        let has = listed-of-use f k (BranchOf whole condition side) named in
         let s : Source f k (BranchOf whole condition side) = all-has (Source f k) (uses_of f k) (BranchOf whole condition side) (all-sources f k keeps.again) has in
         let there = part-there k whole s in
         calm-of-branch there.0 there.1
       where
         calm-of-branch : (occ : Occ) → slice_get f.occs k ≡ Some occ → IsCalm (context k)
-        calm-of-branch occ is = let a = regular.occs k occ is in subst IsCalm (sym (a.contexts (BranchOf whole condition side) has)) (calm-branch (context whole))
+        calm-of-branch occ is = let a = regular.occs k occ is in subst IsCalm (sym (a.contexts (BranchOf whole condition side) named)) (calm-branch (context whole))
     calm-under whole condition side k (Part j n part under) =
         let u = part-used f k n part in
         let there = part-there k n part in
@@ -326,26 +356,27 @@ module _ (f : FlatForm) (keeps : KeepsCalls f) where
 
     module _ (once : (k : ℕ) (occ : Occ) → slice_get f.occs k ≡ Some occ → IsOneUse f k (uses_of f k)) where
       -- no test stands in a branch
-      no-test : (k whole condition : ℕ) (side : Bool) → is_test f k ≡ true → Under f (BranchOf whole condition side) k → ⊥
-      no-test k whole condition side test (Is j has) =
+      no-test : (k whole condition : ℕ) (side : Bool) → IsUse f k TestOf → Under f (BranchOf whole condition side) k → ⊥
+      no-test k whole condition side test (Is j named) =
+          let has = listed-of-use f k (BranchOf whole condition side) named in
           let s : Source f k (BranchOf whole condition side) = all-has (Source f k) (uses_of f k) (BranchOf whole condition side) (all-sources f k keeps.again) has in
           let there = part-there k whole s in
-          differ (only-test f k (uses_of f k) (BranchOf whole condition side) (once k there.0 there.1) (test-used f k test) has)
+          differ (only-test f k (uses_of f k) (BranchOf whole condition side) (once k there.0 there.1) (listed-of-use f k TestOf test) has)
         where
           differ : BranchOf whole condition side ≡ TestOf → ⊥
           differ e = cc
       no-test k whole condition side test (Part j n part under) =
           let u = part-used f k n part in
           let there = part-there k n part in
-          subst (IsPartUse n) (only-test f k (uses_of f k) u.use_is (once k there.0 there.1) (test-used f k test) u.has) u.holds
+          subst (IsPartUse n) (only-test f k (uses_of f k) u.use_is (once k there.0 there.1) (listed-of-use f k TestOf test) u.has) u.holds
       no-test k whole condition side test (Called j c e under) =
           let a = the-call f k c e in
           let r = regular.occs k a.occ a.is in
-          no-test-called (context_of_block (is_hybrid_block f a.occ.block)) c a.occ.call a.call_is (calm-under whole condition side c under) (r.equations TestOf (test-used f k test))
+          no-test-called (context_of_block (is_hybrid_block f a.occ.block)) c a.occ.call a.call_is (calm-under whole condition side c under) (r.equations TestOf test)
 
       -- what nothing uses stands in a branch only with its call
       unused-under : (whole condition : ℕ) (side : Bool) (k : ℕ) (occ : Occ) → slice_get f.occs k ≡ Some occ → uses_of f k ≡ [] → Under f (BranchOf whole condition side) k → CallInBranch f whole side occ.call
-      unused-under whole condition side k occ is none (Is j has) = absurd (has-none (BranchOf whole condition side) (subst (λ us. Has us (BranchOf whole condition side)) none has))
+      unused-under whole condition side k occ is none (Is j named) = absurd (has-none (BranchOf whole condition side) (subst (λ us. Has us (BranchOf whole condition side)) none (listed-of-use f k (BranchOf whole condition side) named)))
       unused-under whole condition side k occ is none (Part j n part under) = let u = part-used f k n part in absurd (has-none u.use_is (subst (λ us. Has us u.use_is) none u.has))
       unused-under whole condition side k occ is none (Called j c e under) =
           let a = the-call f k c e in
@@ -369,7 +400,8 @@ module _ (f : FlatForm) (keeps : KeepsCalls f) where
 
       -- what a definer names stands in a branch only with the place
       named-under : (p : ℕ) (place : PlaceInfo) (d : Definer) (k whole condition : ℕ) (side : Bool) → slice_get f.places p ≡ Some place → Has place.definers d → Has (named_by d) k → Under f (BranchOf whole condition side) k → CallInBranch f whole side place.call
-      named-under p place d k whole condition side is has named (Is j branch) =
+      named-under p place d k whole condition side is has named (Is j under) =
+          let branch = listed-of-use f k (BranchOf whole condition side) under in
           let v = named-used f k p place d is has named in
           let there = there-of k place.call (named-call p k place d is has named) in
           let r = part-and-definer f k whole place.call (uses_of f k) (BranchOf whole condition side) v.use_is (once k there.0 there.1) branch refl v.has v.holds in

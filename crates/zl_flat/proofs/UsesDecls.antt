@@ -1,5 +1,5 @@
 -- Declarations that break no rule of names: what holds of the walks of their expressions and equations, and of their copies.
-use Rattle.std.proofs.Common.{◌≡◌, ℕ, Bool, true, false, ◌||◌, if◌then◌else◌, nat_eq, List, [], ◌∷◌, ◌++◌, map, Option, Some, None, refl, ap, subst, ◌∙◌}
+use Rattle.std.proofs.Common.{◌≡◌, ℕ, Bool, true, false, ◌||◌, if◌then◌else◌, nat_eq, List, [], ◌∷◌, ◌++◌, map, length, Option, Some, None, refl, ap, subst, ◌∙◌, arith}
 use Rattle.std.specs.List.{AllByRecursion}
 use Rattle.std.specs.Prelude.{codes}
 use Rattle.std.proofs.lemmas.Bool.{eqb-true, eq-eqb}
@@ -15,18 +15,20 @@ use Rattle.zl_ast.specs.NamesUsed.{Known, Signature, expr_uses, eqn_uses, values
 use Rattle.zl_ast.specs.NamesRules.{is_constant, signature_of, built_in, with_constant, with_signature, declared_with, inside_of, with_visible, variables_broken, uses_broken, main_broken, decl_broken, decls_broken}
 use Rattle.zl_ast.specs.Scopes as scope
 use Rattle.zl_ast.specs.Scopes.{param_ids, first_entries, parameter}
+use Rattle.zl_flat.specs.declared.here.Here.{Here}
 use Rattle.zl_flat.specs.declared.size.Size.{Size}
+use Rattle.zl_flat.specs.Parts.{Counters, after}
 use Rattle.zl_flat.specs.Operators.{built_in_op}
 use Rattle.zl_flat.specs.Sizes.{decl_size}
 use Rattle.zl_flat.specs.Numbering.{decl_numbering}
 use Rattle.zl_flat.specs.Instances.{Callee, Instance}
-use Rattle.zl_flat.specs.Expressions.{expr_walk}
+use Rattle.zl_flat.specs.Expressions.{expr_walk, exprs_walk}
 use Rattle.zl_flat.specs.Equations.{eqn_walk}
 use Rattle.zl_flat.specs.Expansion.{Scoped, Named, found, with_name, with_callees, instance, decl_copy}
 use Rattle.zl_flat.proofs.WellFormedParts.{all-left, all-right}
-use Rattle.zl_flat.proofs.WellFormedExprTrees.{none-left, none-right, IsVariable, Covers}
-use Rattle.zl_flat.proofs.WellFormedEqnTrees.{covers-one}
-use Rattle.zl_flat.proofs.WellFormedDecls.{all-found, InfosKnown, infos-known, covers-visible, IsCounted, Calls, KnowsNames, known_after}
+use Rattle.zl_flat.proofs.RulesKept.{none-left, none-right, IsVariable, Covers}
+use Rattle.zl_flat.proofs.RulesKept.{covers-one}
+use Rattle.zl_flat.proofs.DeclNames.{all-found, InfosKnown, infos-known, covers-visible, IsCounted, Calls, KnowsNames, known_after}
 use Rattle.zl_flat.proofs.UsesNames.{NamesKnown, EntriesKnown, OutlineKnown, covers-none, covers-names, first-known, list-known}
 use Rattle.zl_flat.proofs.UsesExprTrees.{Copied, OfWalk, OfCallee, OfForms, Callable, HasCalls, expr-holds}
 use Rattle.zl_flat.proofs.UsesEqnTrees.{EqnKinds, OfMaking, OfEquations, eqn-holds}
@@ -225,3 +227,17 @@ module _ (r : Copied) (facts : Facts) (base : ℕ) (names : List (List ℕ)) whe
       callees-hold step (with_name cs d.decl.name.id c) (with_name ss d.decl.name.id (decl_size d.infos (found ss) d.decl)) (declared_with k d.decl) ds
       (and-one r cs d.decl.name.id c all (step cs (found ss) d k counted.0 (none-left one rest h) more.0 all known))
       (knows-more names cs c k d.decl (is_constant d.decl.kind) known) counted.1 (none-right one rest h) more.1
+
+-- nothing more is to be known of declarations
+abbrev pub no_facts : Facts
+no_facts callees sizes d = Unit {0}
+
+-- so it is of each
+pub all-facts : (base : ℕ) (names : List (List ℕ)) (cs : List (Named Callee)) (ss : List (Named Size)) (ds : List Scoped) → AllFacts no_facts base names cs ss ds
+all-facts base names cs ss [] = tt
+all-facts base names cs ss (d ∷ ds) = (tt, all-facts base names (with_name cs d.decl.name.id (decl_copy base names (found cs) (found ss) d)) (with_name ss d.decl.name.id (decl_size d.infos (found ss) d.decl)) ds)
+
+-- each result has a root
+pub roots-length : (base : ℕ) (names : List (List ℕ)) (xs : List Expr) (i : Instance) (here : Here) (s : Counters) → length (exprs_walk base names i xs here s).roots ≡ length xs
+roots-length base names [] i here s = refl
+roots-length base names (x ∷ xs) i here s = let e = roots-length base names xs i here (after s (expr_walk base names i x here s).parts) in omega (arith, e)

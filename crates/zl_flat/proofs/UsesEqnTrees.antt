@@ -30,7 +30,7 @@ use Rattle.zl_flat.specs.Expressions.{Walk, expr_walk}
 use Rattle.zl_flat.specs.Equations as make
 use Rattle.zl_flat.specs.Equations.{Making, Tested, Testing, StateMade, ArmWalk, StateWalk, ResetWalk, MoveWalk, crossing, event, tested, plain, der, init, present, automaton, reset, state_made, arm_made, body_made, up_walk, first_at, event_walk, cond_walk, reset_arm_walk, start_walk, move_walk, eqn_walk, arm_walk, body_walk, one_state_walk}
 use Rattle.zl_flat.proofs.WellFormedParts.{all-left, all-right}
-use Rattle.zl_flat.proofs.WellFormedExprTrees.{none-left, none-right, IsVariable, Covers}
+use Rattle.zl_flat.proofs.RulesKept.{none-left, none-right, IsVariable, Covers}
 use Rattle.zl_flat.proofs.UsesNames.{NamesKnown, EntriesKnown, OutlineKnown, names-known, covers-none, covers-names, free-known, list-known, together-known, states-known}
 use Rattle.zl_flat.proofs.UsesExprTrees.{Kinds, Copied, OfWalk, OfForms, HasCalls, expr-holds}
 

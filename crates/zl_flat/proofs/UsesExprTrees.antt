@@ -26,7 +26,7 @@ use Rattle.zl_flat.specs.Instances.{Copy, Callee, Instance}
 use Rattle.zl_flat.specs.Operators.{value_type, built_in_op}
 use Rattle.zl_flat.specs.Expressions as walk
 use Rattle.zl_flat.specs.Expressions.{Walk, Walked, LinkWalk, leaf, chain, call, built_in, call_or_built_in, last_of, read, prefixed, flow_walk, conditional, expr_walk, link_walk}
-use Rattle.zl_flat.proofs.WellFormedExprTrees.{none-left, none-right, kept-if, IsVariable, Covers}
+use Rattle.zl_flat.proofs.RulesKept.{none-left, none-right, kept-if, IsVariable, Covers}
 
 -- ---- what holds of walks
 

@@ -1,21 +1,18 @@
 -- What `main` expands to uses each of its occurrences at most once, where no rule of names is broken.
-use Rattle.std.proofs.Common.{◌≡◌, ℕ, ◌+◌, ◌≤◌, List, [], ◌∷◌, map, length, Option, Some, None, refl, arith}
+use Rattle.std.proofs.Common.{◌≡◌, ℕ, ◌+◌, ◌≤◌, List, [], ◌∷◌, map, Option, Some, None, refl, arith}
 use Rattle.std.specs.List.{AllByRecursion}
-use Rattle.zl_ast.specs.declared.expr.Expr.{Expr}
 use Rattle.zl_ast.specs.declared.program.Decl.{Decl}
 use Rattle.zl_ast.specs.declared.program.Param.{Param}
 use Rattle.zl_ast.specs.NamesRules.{built_in}
 use Rattle.zl_flat.specs.declared.here.Here.{Here}
 use Rattle.zl_flat.specs.declared.here.Root.{Root}
-use Rattle.zl_flat.specs.declared.size.Size.{Size}
 use Rattle.zl_flat.specs.declared.given.Given.{Given}
 use Rattle.zl_flat.specs.Operators.{value_type}
-use Rattle.zl_flat.specs.Sizes.{decl_size}
 use Rattle.zl_flat.specs.Parts.{Parts, Counters, joined, some_places, some_definers, after, past_block, start}
-use Rattle.zl_flat.specs.Instances.{Callee, Instance}
+use Rattle.zl_flat.specs.Instances.{Instance}
 use Rattle.zl_flat.specs.Expressions.{Walk, expr_walk, exprs_walk}
 use Rattle.zl_flat.specs.Equations.{eqn_walk, eqns_walk}
-use Rattle.zl_flat.specs.Expansion.{Scoped, Named, found, with_name, with_callees, argument_definers, input_definers, param_place, body_copy, instance, decl_copy, main_here, main_block, main_parts, MainOf, sizes_of, main_size}
+use Rattle.zl_flat.specs.Expansion.{found, with_callees, argument_definers, input_definers, param_place, body_copy, instance, decl_copy, main_here, main_block, main_parts, MainOf, sizes_of, main_size}
 use Rattle.zl_flat.proofs.WellFormedDecls.{known_after, IsMainKept}
 use Rattle.zl_flat.proofs.WellFormedParts.{Each}
 use Rattle.zl_flat.proofs.UsesCount.{total, in_roots, in_kind, in_moves, in_given, count, owned}
@@ -24,17 +21,8 @@ use Rattle.zl_flat.proofs.UsesExprs.{WalkOwes, LinkOwes, CopyOwes, walk_all-owes
 use Rattle.zl_flat.proofs.UsesEqns.{IsResetWalk, IsMoveWalk, IsStart, IsOther, in_turn-owes, crossing-owes, event-owes, tested-owes, plain-owes, der-owes, init-owes, reset-owes, arm-owes, present-owes, state-owes, automaton-owes, body-owes}
 use Rattle.zl_flat.proofs.UsesExprTrees.{Kinds, Copied, OfForms}
 use Rattle.zl_flat.proofs.UsesEqnTrees.{EqnKinds, OfStart, OfOther, OfReset, OfMove, OfEquations}
-use Rattle.zl_flat.proofs.UsesDecls.{inside-of, OfDecl, decl-holds, nothing-known, has-calls, Facts, AllFacts, Copies, callees-hold}
+use Rattle.zl_flat.proofs.UsesDecls.{roots-length, inside-of, OfDecl, decl-holds, nothing-known, has-calls, no_facts, all-facts, Copies, callees-hold}
 use Rattle.zl_flat.specs.Equations.{Making, ResetWalk, MoveWalk}
-
--- nothing more is to be known of declarations
-abbrev no_facts : Facts
-no_facts callees sizes d = Unit {0}
-
--- so it is of each
-all-facts : (base : ℕ) (names : List (List ℕ)) (cs : List (Named Callee)) (ss : List (Named Size)) (ds : List Scoped) → AllFacts no_facts base names cs ss ds
-all-facts base names cs ss [] = tt
-all-facts base names cs ss (d ∷ ds) = (tt, all-facts base names (with_name cs d.decl.name.id (decl_copy base names (found cs) (found ss) d)) (with_name ss d.decl.name.id (decl_size d.infos (found ss) d.decl)) ds)
 
 module _ (v w : ℕ → ℕ) (base : ℕ) (le : (n : ℕ) → w n ≤ v n) where
   -- what is shown of expressions
@@ -137,11 +125,6 @@ module _ (v w : ℕ → ℕ) (base : ℕ) (le : (n : ℕ) → w n ≤ v n) where
     in-inputs n [] = refl
     in-inputs n (p ∷ ps) = let e = in-inputs (n + 1) ps in omega (arith, e)
 
-    -- each result has a root
-    roots-length : (xs : List Expr) (i : Instance) (here : Here) (s : Counters) → length (exprs_walk base names i xs here s).roots ≡ length xs
-    roots-length [] i here s = refl
-    roots-length (x ∷ xs) i here s = let e = roots-length xs i here (after s (expr_walk base names i x here s).parts) in omega (arith, e)
-
     -- it holds of the copy of each declaration
     copies-owe : Copies owing_copies no_facts base names
     unfolding decl_copy
@@ -153,7 +136,7 @@ module _ (v w : ℕ → ℕ) (base : ℕ) (le : (n : ℕ) → w n ≤ v n) where
         let copy = body_copy base names i d.decl definers here s in
         let needs = total (in_given v w) definers in
         let less = in-arguments here s.places d.decl.params roots in
-        let count = roots-length d.decl.results i here (after s (joined (some_places (map (param_place i here) d.decl.params)) (some_definers definers))) in
+        let count = roots-length base names d.decl.results i here (after s (joined (some_places (map (param_place i here) d.decl.params)) (some_definers definers))) in
         let some = counted.some in
         record { some = omega (arith, count, some); parts = relax v w base needs (in_roots v copy.results) (in_roots w roots) (in_roots v copy.results) s copy.parts (omega (arith, less)) (body_copy-owes i d.decl definers h here s) }
 

@@ -4,7 +4,7 @@ use Rattle.std.specs.List.{AllByRecursion, flat_map}
 use Rattle.std.proofs.lemmas.Bool.{eqb-true, eq-eqb}
 use Rattle.zl_value.specs.Lists.{Has, among, when}
 use Rattle.zl_meaning.specs.FlatForm.{FlatForm}
-use Rattle.zl_meaning.specs.Uses.{Use, PartOf, BranchOf, DefinerOf, SlopeOf, EventOf, StartOf, ResetOf, TestOf, ArgumentOf, AgainOf, parts, part_uses, uses_in_occs, events_of, arm_uses, definer_uses, place_uses, is_test, is_argument, uses_of}
+use Rattle.zl_meaning.specs.Uses.{Use, PartOf, BranchOf, DefinerOf, SlopeOf, EventOf, StartOf, ResetOf, TestOf, ArgumentOf, AgainOf, IsUnused, parts, part_uses, uses_in_occs, events_of, arm_uses, definer_uses, place_uses, is_test, is_argument, uses_of}
 use Rattle.zl_meaning.specs.WellFormed.{named_in, named_by}
 use Rattle.zl_meaning.specs.Branches.{IsPart}
 use Rattle.zl_meaning.specs.declared.place.Definer.{Definer}
@@ -14,6 +14,7 @@ use Rattle.zl_meaning.specs.declared.place.PlaceInfo.{PlaceInfo}
 use Rattle.zl_meaning.specs.declared.occurrence.Form.{Form}
 use Rattle.zl_meaning.specs.declared.occurrence.Form.TheVariants.{If}
 use Rattle.zl_meaning.specs.declared.occurrence.Occ.{Occ}
+use Rattle.zl_meaning.proofs.UseCases.{use-of-listed, listed-of-use}
 use Rattle.zl_flat.proofs.WellFormedParts.{AllFrom, all-stand, all-append}
 
 -- ---- lists
@@ -429,3 +430,17 @@ module _ (f : FlatForm) (k : ℕ) where
       not_again : (ks : List ℕ) → ks ≡ [] → among k ks ≡ true → ⊥
       not_again [] e g = cc
       not_again (j ∷ ks) e g = cc
+
+-- ---- what nothing uses
+
+-- an occurrence without entries in its list of uses isn't used
+pub listed-unused : (f : FlatForm) (k : ℕ) → uses_of f k ≡ [] → IsUnused f k
+listed-unused f k none of named = has-none of (subst (λ us. Has us of) none (listed-of-use f k of named))
+
+-- and one that isn't used has no entry
+pub unused-listed : (f : FlatForm) (k : ℕ) → IsUnused f k → uses_of f k ≡ []
+unused-listed f k unused = by_uses (uses_of f k) refl
+  where
+    by_uses : (us : List Use) → uses_of f k ≡ us → us ≡ []
+    by_uses [] e = refl
+    by_uses (u ∷ us) e = absurd (unused u (use-of-listed f k u (subst (λ xs. Has xs u) (sym e) (record { index = 0; is = refl }))))

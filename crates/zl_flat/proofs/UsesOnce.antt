@@ -4,14 +4,13 @@ use Rattle.std.proofs.Common.{◌≡◌, ◌⊎◌, inl, inr, ℕ, zero, suc, �
 use Rattle.std.specs.List.{AllByRecursion, flat_map}
 use Rattle.std.proofs.lemmas.Bool.{eqb-true, eq-eqb}
 use Rattle.zl_value.specs.Lists.{when, listed}
-use Rattle.zl_meaning.specs.FlatForm.{FlatForm}
+use Rattle.zl_meaning.specs.FlatForm.{FlatForm, HasForm}
 use Rattle.zl_meaning.specs.Uses.{Use, PartOf, BranchOf, DefinerOf, SlopeOf, EventOf, StartOf, ResetOf, TestOf, ArgumentOf, AgainOf, part_uses, uses_in_occs, definer_uses, place_uses, is_test, is_argument, uses_of}
-use Rattle.zl_meaning.specs.Single.{IsOneUse, Unused, Once, OfCall}
 use Rattle.zl_meaning.specs.declared.place.Definer.{Definer}
 use Rattle.zl_meaning.specs.declared.place.Definer.TheVariants.{Input, Plain, Der, Start}
 use Rattle.zl_meaning.specs.declared.place.PlaceInfo.{PlaceInfo}
 use Rattle.zl_meaning.specs.declared.occurrence.Form.{Form}
-use Rattle.zl_meaning.specs.declared.occurrence.Form.TheVariants.{Lit, Read, Last, Op as Apply, If, Arrow, Pre, Result, Up, Fired}
+use Rattle.zl_meaning.specs.declared.occurrence.Form.TheVariants.{Lit, Read, Last, Op as Apply, If, Arrow, Pre, Result, Up, Fired, Step}
 use Rattle.zl_meaning.specs.declared.occurrence.Occ.{Occ}
 use Rattle.zl_meaning.specs.declared.occurrence.SiteInfo.{SiteInfo}
 use Rattle.zl_flat.specs.declared.given.Given.{Given}
@@ -96,7 +95,7 @@ the_result k (Result x) = x
 the_result k form = k
 
 -- a call has one result
-result-equal : (k x y : ℕ) → Result x ≡ Result y → x ≡ y
+pub result-equal : (k x y : ℕ) → Result x ≡ Result y → x ≡ y
 result-equal k x y h = ap (the_result k) h
 
 module _ (k : ℕ) where
@@ -123,6 +122,7 @@ module _ (k : ℕ) where
   is-result (Result x) = result-case x
   is-result (Up s) = inr (λ h. cc)
   is-result (Fired ks) = inr (λ h. cc)
+  is-result Step = inr (λ h. cc)
 
   -- one of the list is a call with this result, or none is
   find-call : (occs : List Occ) → IsCallOf k occs ⊎ NoCallOf k occs
@@ -297,9 +297,15 @@ module _ (base : ℕ) (p : Parts) (h : Fits base p) where
 
 -- ---- one use
 
+-- the uses of an occurrence, as they are counted: one alone, or as the result of a call and by a definer
+pub data AreUses (f : FlatForm) (k : ℕ) : List Use → Type 0 where
+  Unused : AreUses f k []
+  Once : (of : Use) → AreUses f k (of ∷ [])
+  OfCall : (whole : ℕ) (call : Option ℕ) → HasForm f whole (Result k) → AreUses f k (PartOf whole ∷ DefinerOf call ∷ [])
+
 module _ (f : FlatForm) (k : ℕ) where
   -- no use, or one
-  at-most-one : (us : List Use) → length us ≤ 1 → IsOneUse f k us
+  at-most-one : (us : List Use) → length us ≤ 1 → AreUses f k us
   at-most-one [] h = Unused
   at-most-one (u ∷ []) h = Once u
   at-most-one (u ∷ v ∷ us) h = absurd (omega (arith, h))
@@ -314,16 +320,16 @@ module _ (f : FlatForm) (k : ℕ) where
       omega (arith, a, b, c, d)
 
   -- as the part of a call, and by a plain definer
-  of-call : (whole : ℕ) (occ : Occ) (v : Use) → slice_get f.occs whole ≡ Some occ → occ.form ≡ Result k → IsDefinerUse v → IsOneUse f k (PartOf whole ∷ v ∷ [])
-  of-call whole occ v is form b = subst (λ y. IsOneUse f k (PartOf whole ∷ y ∷ [])) (sym b.use_is) (OfCall whole occ b.call is form)
+  of-call : (whole : ℕ) (occ : Occ) (v : Use) → slice_get f.occs whole ≡ Some occ → occ.form ≡ Result k → IsDefinerUse v → AreUses f k (PartOf whole ∷ v ∷ [])
+  of-call whole occ v is form b = subst (λ y. AreUses f k (PartOf whole ∷ y ∷ [])) (sym b.use_is) (OfCall whole b.call (occ, is, form))
 
   -- the result of a call, which has one use as a part, no test and no site, and otherwise plain definers alone
-  result-uses : (whole : ℕ) (occ : Occ) (us vs ts gs : List Use) → slice_get f.occs whole ≡ Some occ → occ.form ≡ Result k → us ≡ PartOf whole ∷ [] → length vs ≤ 1 → length ts + length gs ≤ 0 → AllByRecursion IsDefinerUse vs → IsOneUse f k (us ++ vs ++ ts ++ gs ++ [])
+  result-uses : (whole : ℕ) (occ : Occ) (us vs ts gs : List Use) → slice_get f.occs whole ≡ Some occ → occ.form ≡ Result k → us ≡ PartOf whole ∷ [] → length vs ≤ 1 → length ts + length gs ≤ 0 → AllByRecursion IsDefinerUse vs → AreUses f k (us ++ vs ++ ts ++ gs ++ [])
   result-uses whole occ us [] ts gs is form e hv hm all = let g = length-five us [] ts gs in let i = ap length e in at-most-one (us ++ [] ++ ts ++ gs ++ []) (omega (arith, g, i, hm))
   result-uses whole occ us (v ∷ v2 ∷ vs) ts gs is form e hv hm all = absurd (omega (arith, hv))
   result-uses whole occ us (v ∷ []) (t ∷ ts) gs is form e hv hm all = absurd (omega (arith, hm))
   result-uses whole occ us (v ∷ []) [] (g ∷ gs) is form e hv hm all = absurd (omega (arith, hm))
-  result-uses whole occ us (v ∷ []) [] [] is form e hv hm all = subst (λ xs. IsOneUse f k (xs ++ (v ∷ []) ++ [] ++ [] ++ [])) (sym e) (of-call whole occ v is form all.0)
+  result-uses whole occ us (v ∷ []) [] [] is form e hv hm all = subst (λ xs. AreUses f k (xs ++ (v ∷ []) ++ [] ++ [] ++ [])) (sym e) (of-call whole occ v is form all.0)
 
 module _ (base : ℕ) (p : Parts) (h : Fits base p) (ins outs : List ℕ) where
   -- what the uses that the form records weigh
@@ -361,10 +367,10 @@ module _ (base : ℕ) (p : Parts) (h : Fits base p) (ins outs : List ℕ) where
         omega (arith, g, all, a, b, t, c)
 
   -- each occurrence has at most one use
-  pub form-once : (k : ℕ) → IsOneUse (form_of p ins outs) k (uses_of (form_of p ins outs) k)
+  pub form-once : (k : ℕ) → AreUses (form_of p ins outs) k (uses_of (form_of p ins outs) k)
   form-once k = by_call (find-call k (p.occs ++ p.hidden))
     where
-      by_call : IsCallOf k (p.occs ++ p.hidden) ⊎ NoCallOf k (p.occs ++ p.hidden) → IsOneUse (form_of p ins outs) k (uses_of (form_of p ins outs) k)
+      by_call : IsCallOf k (p.occs ++ p.hidden) ⊎ NoCallOf k (p.occs ++ p.hidden) → AreUses (form_of p ins outs) k (uses_of (form_of p ins outs) k)
       by_call (inr none) =
           let a = uses-counted k in
           let b = with-plain base p h k none in
@@ -430,8 +436,8 @@ module _ (base : ℕ) (p : Parts) (h : Fits base p) (ins outs : List ℕ) where
 pub main-fits : (names : List (List ℕ)) (m : MainOf) → IsMainKept names m → Fits (main_size m).occs (parts_of names m)
 main-fits names m kept = record { behind = kept.hidden_behind; fits = λ v w le pays. main-owes v w le names m kept pays }
 
--- the field `uses` of what is single
-pub main-uses : (names : List (List ℕ)) (m : MainOf) → IsMainKept names m → (k : ℕ) (occ : Occ) → slice_get (main_form names m).occs k ≡ Some occ → IsOneUse (main_form names m) k (uses_of (main_form names m) k)
+-- so are the uses of each occurrence counted
+pub main-counted : (names : List (List ℕ)) (m : MainOf) → IsMainKept names m → (k : ℕ) (occ : Occ) → slice_get (main_form names m).occs k ≡ Some occ → AreUses (main_form names m) k (uses_of (main_form names m) k)
 unfolding main_form
-main-uses names m kept k occ is =
+main-counted names m kept k occ is =
     form-once (main_size m).occs (parts_of names m) (main-fits names m kept) (listed (length m.main.decl.params) 0 (λ n. n)) (result_places (variables_from (sizes_of m) m.main 0) m.main.decl.results) k

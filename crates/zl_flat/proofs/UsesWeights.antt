@@ -12,7 +12,7 @@ use Rattle.zl_meaning.specs.declared.place.Definer.{Definer}
 use Rattle.zl_meaning.specs.declared.place.Definer.TheVariants.{Input, Plain, Der, Start}
 use Rattle.zl_meaning.specs.declared.place.DerArm.{DerArm}
 use Rattle.zl_meaning.specs.declared.occurrence.Form.{Form}
-use Rattle.zl_meaning.specs.declared.occurrence.Form.TheVariants.{Lit, Read, Last, Op as Apply, If, Arrow, Pre, Result, Up, Fired}
+use Rattle.zl_meaning.specs.declared.occurrence.Form.TheVariants.{Lit, Read, Last, Op as Apply, If, Arrow, Pre, Result, Up, Fired, Step}
 use Rattle.zl_meaning.specs.declared.occurrence.Occ.{Occ}
 use Rattle.zl_meaning.specs.declared.occurrence.SiteInfo.{SiteInfo}
 use Rattle.zl_flat.specs.declared.given.Given.{Given}
@@ -100,6 +100,7 @@ pays-form v w n (Pre x) h = tt
 pays-form v w n (Result x) h = h x refl
 pays-form v w n (Up s) h = tt
 pays-form v w n (Fired ks) h = tt
+pays-form v w n Step h = tt
 
 -- what holds of each entry holds of the list
 from-each : {X : Type 0} (P : ℕ → X → Type 0) (m : ℕ) (xs : List X) → ((n : ℕ) (x : X) → slice_get xs n ≡ Some x → P (m + n) x) → AllFrom P m xs

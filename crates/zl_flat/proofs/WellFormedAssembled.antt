@@ -1,9 +1,6 @@
--- The flat form of a parsed and typed program is well-formed, if it has heights and keeps branches.
+-- The flat form of a parsed and typed program is well-formed, if it has heights and keeps branches and calls.
 use Rattle.std.proofs.Common.{◌≡◌, ℕ, List, [], Some}
-use Rattle.std.specs.List.{AllByRecursion}
 use Rattle.zl_value.specs.declared.value.Ty.{Ty}
-use Rattle.zl_lexer.specs.Facts.{IsKind}
-use Rattle.zl_lexer.specs.declared.token.Token.{Token}
 use Rattle.zl_ast.specs.declared.program.Program.{Program}
 use Rattle.zl_ast.specs.NamesRules.{violations}
 use Rattle.zl_ast.specs.Scopes.{scopes}
@@ -13,9 +10,11 @@ use Rattle.zl_ast.specs.Parsed.{IsParsed}
 use Rattle.zl_meaning.specs.FlatForm.{FlatForm}
 use Rattle.zl_meaning.specs.WellFormed.{HasHeights, KeepsBranches, IsWellFormed}
 use Rattle.zl_meaning.specs.declared.occurrence.Form.{Form}
-use Rattle.zl_meaning.specs.declared.occurrence.Form.TheVariants.{Lit, Read, Last, Op as Apply, If, Arrow, Pre, Result, Up, Fired}
+use Rattle.zl_meaning.specs.declared.occurrence.Form.TheVariants.{Lit, Read, Last, Op as Apply, If, Arrow, Pre, Result, Up, Fired, Step}
 use Rattle.zl_flat.specs.Expansion.{MainOf, main_form, program_main}
+use Rattle.zl_flat.proofs.UsesBranches.{KeepsCalls}
 use Rattle.zl_flat.proofs.WellFormedBodies.{main-some, main-again, choice-bodies, automaton-guards, automaton-bodies}
+use Rattle.zl_flat.proofs.WellFormedCalls.{places-in_copy}
 use Rattle.zl_flat.proofs.WellFormedDecls.{main-stands}
 use Rattle.zl_flat.proofs.WellFormedOrder.{program-kept, program-in-order}
 use Rattle.zl_flat.proofs.WellFormedReads.{FormPlaced}
@@ -35,17 +34,18 @@ last-declared f b ty (Pre x) h = tt
 last-declared f b ty (Result x) h = tt
 last-declared f b ty (Up s) h = tt
 last-declared f b ty (Fired ks) h = tt
+last-declared f b ty Step h = tt
 
--- All fields of a well-formed form but heights and branches, for a program that is the tree of a text's tokens, breaks no rule
+-- All fields of a well-formed form but heights and branches, and what definers name, for a program that is the tree of a text's tokens, breaks no rule
 -- of names and has types.
 pub parsed-well-formed : (p : Program) (types : List (List Ty)) (m : MainOf) → program_main p (scopes p) types ≡ Some m → violations p ≡ [] → IsTyping (equalities p) (scopes p) types →
-    (h : IsParsed p) (count : ℕ) → AllByRecursion (λ (t : Token). IsKind count t.kind) h.tokens → HasHeights (main_form p.names m) → KeepsBranches (main_form p.names m) → IsWellFormed (main_form p.names m)
-parsed-well-formed p types m is none typing h count fits heights branches =
+    IsParsed p → HasHeights (main_form p.names m) → KeepsBranches (main_form p.names m) → KeepsCalls (main_form p.names m) → IsWellFormed (main_form p.names m)
+parsed-well-formed p types m is none typing h heights branches calls =
     let f = main_form p.names m in
-    let order = parsed-order p types none typing h count fits in
+    let order = parsed-order p types none typing h in
     let kept = program-kept p types order m is in
     let places = main-places p.names m (program-in-order p types order m is) in
-    well-formed f (main-stands p.names m kept) (parsed-types p types m is none typing h count fits)
+    well-formed f (main-stands p.names m kept) (parsed-types p types m is none typing h)
     (record {
       main = main-some p.names m;
       arms = choice-bodies p.names m kept;
@@ -53,6 +53,7 @@ parsed-well-formed p types m is none typing h count fits heights branches =
       states = automaton-bodies p.names m kept;
       lasts = λ k occ at. last-declared f occ.block occ.ty occ.form (places.occs k occ at);
       definers = places.definers;
+      copies = places-in_copy f calls;
       again = main-again p.names m;
       ins = places.ins;
       outs = places.outs;

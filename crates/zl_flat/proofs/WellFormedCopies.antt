@@ -34,7 +34,7 @@ use Rattle.zl_flat.specs.Equations.{place_type, eqn_walk, eqns_walk}
 use Rattle.zl_flat.specs.Expansion.{Scoped, param_place, body_copy, instance}
 use Rattle.zl_flat.proofs.WellFormedParts.{AllFrom, all-append, each-left, each-right, the_places}
 use Rattle.zl_flat.proofs.WellFormedGround.{IsPlaceAt, standing, Sits}
-use Rattle.zl_flat.proofs.WellFormedExprTrees.{none-left, none-right}
+use Rattle.zl_flat.proofs.RulesKept.{none-left, none-right}
 use Rattle.zl_flat.proofs.WellFormedDecls.{IsCounted}
 use Rattle.zl_flat.proofs.WellFormedSizes.{IsSized}
 use Rattle.zl_flat.proofs.WellFormedSizesForm.{exprs-make}
@@ -52,16 +52,20 @@ pub record IsInOrder (d : Scoped) : Type 0 where
   pub in_text : Grow (places (decl_spots d.decl))
   pub some : 0 < length d.decl.results
 
--- the variables of a declaration that breaks no rule of names differ
-pub kept-distinct : (names : List (List ℕ)) (k : Known) (d : Decl) → decl_broken names k d ≡ [] → Distinct (scope.variables d)
+-- the variables of a declaration that breaks no rule of names differ from each other and from constants
+pub kept-twice : (names : List (List ℕ)) (k : Known) (d : Decl) → decl_broken names k d ≡ [] → twice k.constants [] (scope.variables d) ≡ []
 unfolding variables_broken
-kept-distinct names k d h =
+kept-twice names k d h =
     let outline = eqns_outline d.eqs in
     let one = broken_if (is_declared k d.name.id) rule.NameTwice d.name.at in
     let three = first_places (with_ids [] (param_ids d.params)) [] outline.entries in
     let four = twice k.constants [] (scope.variables d) in
     let rest = outline.broken ++ (three ++ four) in
-    twice-distinct k.constants [] (scope.variables d) (none-right three four (none-right outline.broken (three ++ four) (none-right one rest (none-left (one ++ rest) (uses_broken names (inside_of k d) d) h))))
+    none-right three four (none-right outline.broken (three ++ four) (none-right one rest (none-left (one ++ rest) (uses_broken names (inside_of k d) d) h)))
+
+-- so they differ
+pub kept-distinct : (names : List (List ℕ)) (k : Known) (d : Decl) → decl_broken names k d ≡ [] → Distinct (scope.variables d)
+kept-distinct names k d h = twice-distinct k.constants [] (scope.variables d) (kept-twice names k d h)
 
 -- the variables have a type and a place each
 pub order-counted : (names : List (List ℕ)) (k : Known) (d : Scoped) → decl_broken names k d.decl ≡ [] → IsInOrder d → IsCounted d

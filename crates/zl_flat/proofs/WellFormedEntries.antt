@@ -9,8 +9,8 @@ use Rattle.zl_ast.specs.NamesDefined.{Outline, StateOutline, entry, is_defined, 
 use Rattle.zl_ast.specs.Scopes.{first_entries}
 use Rattle.zl_flat.specs.Instances.{Instance}
 use Rattle.zl_flat.proofs.WellFormedParts.{all-left, all-right}
-use Rattle.zl_flat.proofs.WellFormedExprTrees.{IsVariable, Covers}
-use Rattle.zl_flat.proofs.WellFormedEqnTrees.{covers-one}
+use Rattle.zl_flat.proofs.RulesKept.{IsVariable, Covers}
+use Rattle.zl_flat.proofs.RulesKept.{covers-one}
 
 module _ (i : Instance) where
   -- the name of each of these entries is that of a variable

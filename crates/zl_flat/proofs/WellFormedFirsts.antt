@@ -14,7 +14,7 @@ use Rattle.zl_ast.specs.Parsed.{Before, Grow}
 use Rattle.zl_flat.specs.declared.variable.Variable.{Variable}
 use Rattle.zl_flat.specs.Variables.{variables, variable_of, place_in_text, same_pos, is_there, is_first}
 use Rattle.zl_flat.proofs.WellFormedParts.{all-append}
-use Rattle.zl_flat.proofs.WellFormedExprTrees.{none-left, none-right, kept-if}
+use Rattle.zl_flat.proofs.RulesKept.{none-left, none-right, kept-if}
 use Rattle.zl_flat.proofs.WellFormedMentions.{Mention, firsts, numbers, as_entry, as_entries, places_in_text}
 
 -- ---- names that differ

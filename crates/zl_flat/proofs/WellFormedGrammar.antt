@@ -30,14 +30,16 @@ use Rattle.zl_ast.specs.TypeEqualities.{called}
 use Rattle.zl_flat.specs.Operators.{value_type}
 
 -- What stands in a tree of which the grammar says more than the tree: a literal, the left side of an equation with the name
--- that its right side calls, the type behind a parameter, how many results a declaration has, and how many states an
--- automaton.
+-- that its right side calls, the type behind a parameter, and how many results a declaration has, states an automaton, arms
+-- a choice and `up`s an event.
 pub data Written : Type 0 where
   literal : Value → Written
   left_side : List Name → Option Name → Written
   annotated : Option Ty → Written
   some_results : ℕ → Written
   some_states : ℕ → Written
+  some_arms : ℕ → Written
+  some_ups : ℕ → Written
 
 -- several names stand on the left of a call alone
 abbrev pub IsLeftOf : List Name → Option Name → Type 0
@@ -60,6 +62,8 @@ IsWritten (left_side left c) = IsLeftOf left c
 IsWritten (annotated ty) = IsAnnotation ty
 IsWritten (some_results n) = 0 < n
 IsWritten (some_states n) = 0 < n
+IsWritten (some_arms n) = 0 < n
+IsWritten (some_ups n) = 0 < n
 
 abbrev pub AllWritten : List Written → Type 0
 AllWritten ws = AllByRecursion IsWritten ws
@@ -91,8 +95,11 @@ exprs_written xs = joined (map expr_written xs)
 abbrev pub ups_written : List Up → List Written
 ups_written us = joined (map (λ u. expr_written u.arg) us)
 
+abbrev pub event_written : List Up → List Written
+event_written us = some_ups (length us) ∷ ups_written us
+
 abbrev pub cond_written : Cond → List Written
-cond_written (Event us) = ups_written us
+cond_written (Event us) = event_written us
 cond_written (Test at x) = expr_written x
 
 abbrev pub start_written : Option Expr → List Written
@@ -100,7 +107,7 @@ start_written None = []
 start_written (Some x) = expr_written x
 
 abbrev pub reset_arm_written : ResetArm → List Written
-reset_arm_written r = ups_written r.event ++ expr_written r.value
+reset_arm_written r = event_written r.event ++ expr_written r.value
 
 abbrev pub moves_written : List Move → List Written
 moves_written ms = joined (map (λ m. cond_written m.cond) ms)
@@ -113,7 +120,7 @@ abbrev pub eqn_step : Eqn-F (List Written) (List Written) (List Written) (List W
 eqn_step (open_eqn.Plain left right) = left_side left (called right) ∷ expr_written right
 eqn_step (open_eqn.Der at x slope start resets) = expr_written slope ++ (start_written start ++ joined (map reset_arm_written resets))
 eqn_step (open_eqn.Start at x value) = expr_written value
-eqn_step (open_eqn.Present at arms other) = joined arms ++ if_any other
+eqn_step (open_eqn.Present at arms other) = some_arms (length arms) ∷ (joined arms ++ if_any other)
 eqn_step (open_eqn.Automaton at states) = some_states (length states) ∷ joined states
 eqn_step (open_eqn.Reset at eqs c) = joined eqs ++ cond_written c
 

@@ -12,9 +12,9 @@ use Rattle.zl_flat.specs.Variables.{variable_of, is_first}
 use Rattle.zl_flat.specs.Instances.{Instance, in_body, in_block, place_here}
 use Rattle.zl_flat.specs.Expressions.{Walk}
 use Rattle.zl_flat.specs.Equations.{Making, in_turn, Testing, test_all, place_type, StateWalk, states_made, state_names, ArmWalk, arms_made, body_of_choice, ResetWalk, MoveWalk, condition_place, name_made, names_made, crossing, event, tested, plain, resets_made, start_made, der, init, other_made, present, automaton, reset, moves_made, state_made, arm_made, body_made}
-use Rattle.zl_flat.proofs.WellFormedWalksEqns.{IfThere, ResetHolds, MoveHolds}
+use Rattle.zl_flat.proofs.UsesEqnTrees.{EqnKinds, OfStart, OfOther, OfReset, OfMove}
 use Rattle.zl_flat.proofs.WellFormedHeights.{Depths, Nothing, asking, giving, in-turn, one-and-other, nothing-depths, place-depths, definers-depths, occ-before, hidden-before, block-before, site-before, choice-before, automaton-before}
-use Rattle.zl_flat.proofs.WellFormedHeightsExprs.{Below, below-next, lies-deep, WalkDepths}
+use Rattle.zl_flat.proofs.WellFormedHeightsExprs.{Below, below-next, lies-deep, WalkDepths, deep_exprs}
 
 -- these occurrences lie at this depth, or deeper
 abbrev pub TestsLie : ℕ → List ℕ → (ℕ → ℕ) → Type 0
@@ -35,6 +35,16 @@ module _ (base : ℕ) where
 
   abbrev pub StateWalkDepths : StateWalk → Type 0
   StateWalkDepths w = (of number : ℕ) (states : List ℕ) (here : Here) (s : Counters) (d : ℕ) → Depths base s (w.walk of number states here s).parts (Below here d) Nothing
+
+  abbrev pub deep : EqnKinds
+  deep = record {
+    exprs = deep_exprs base;
+    made = λ here s p. (d : ℕ) → Depths base s p (Below here d) Nothing;
+    tested = λ here s t. (d : ℕ) → Depths base s t.parts (Below here d) (λ depth. d ≤ depth t.test);
+    crossed = λ here s t. (d : ℕ) → Depths base s t.parts (Below here d) (λ depth. d ≤ depth t.test);
+    armed = λ of number here s t. (d : ℕ) → Depths base s t.parts (Below here d) Nothing;
+    stated = λ of number states here s m. (d : ℕ) → Depths base s m.parts (Below here d) Nothing;
+  }
 
   -- ---- one behind the other
 
@@ -104,19 +114,19 @@ module _ (base : ℕ) where
         let t = after s (name_made base names i x (in_body i here) s) in
         one-and-other base (name-depths x (in_body i here) s d) (one-and-other base (hr here t d) (definers-depths base _ _ (Below here d)))
 
-    resets-depths : (rs : List ResetWalk) → AllByRecursion (ResetHolds (WalkDepths base) TestingDepths) rs → (here : Here) (s : Counters) (d : ℕ) → Depths base s (resets_made base names i rs here s).parts (Below here d) Nothing
+    resets-depths : (rs : List ResetWalk) → AllByRecursion (OfReset deep) rs → (here : Here) (s : Counters) (d : ℕ) → Depths base s (resets_made base names i rs here s).parts (Below here d) Nothing
     resets-depths [] hs here s d = nothing-depths base s (Below here d)
     resets-depths (r ∷ rs) hs here s d =
         let t = after s (r.event here s).parts in
         let u = after t (r.value here t).parts in
         one-and-other base (hs.0.event here s d) (one-and-other base (hs.0.value here t d) (resets-depths rs hs.1 here u d))
 
-    start-depths : (start : Option Walk) → IfThere (WalkDepths base) start → (here : Here) (s : Counters) (d : ℕ) → Depths base s (start_made base names i start here s).parts (Below here d) Nothing
+    start-depths : (start : Option Walk) → OfStart deep start → (here : Here) (s : Counters) (d : ℕ) → Depths base s (start_made base names i start here s).parts (Below here d) Nothing
     start-depths None hx here s d = nothing-depths base s (Below here d)
     start-depths (Some x) hx here s d = giving base (λ depth a g. tt) (hx here s d)
 
     -- `der x = e init v reset ..`
-    pub der-depths : (x : Name) (slope : Walk) (start : Option Walk) (resets : List ResetWalk) → WalkDepths base slope → IfThere (WalkDepths base) start → AllByRecursion (ResetHolds (WalkDepths base) TestingDepths) resets → MakingDepths (der base names i x slope start resets)
+    pub der-depths : (x : Name) (slope : Walk) (start : Option Walk) (resets : List ResetWalk) → WalkDepths base slope → OfStart deep start → AllByRecursion (OfReset deep) resets → MakingDepths (der base names i x slope start resets)
     der-depths x slope start resets hslope hstart hresets here s d =
         let t = after s (name_made base names i x (in_body i here) s) in
         let u = after t (slope here t).parts in
@@ -144,12 +154,12 @@ module _ (base : ℕ) where
     arms-depths [] hs of number here s d = nothing-depths base s (Below here d)
     arms-depths (w ∷ ws) hs of number here s d = one-and-other base (hs.0 of number here s d) (arms-depths ws hs.1 of (number + 1) here (after s (w of number here s).parts) d)
 
-    other-depths : (other : Option Making) → IfThere MakingDepths other → (of number : ℕ) → MakingDepths (other_made base names i other of number)
+    other-depths : (other : Option Making) → OfOther deep other → (of number : ℕ) → MakingDepths (other_made base names i other of number)
     other-depths None hb of number here s d = nothing-depths base s (Below here d)
     other-depths (Some b) hb of number here s d = body_of_choice-depths b hb of number here s d
 
     -- `present` and its arms
-    pub present-depths : (arms : List ArmWalk) (other : Option Making) → AllByRecursion ArmWalkDepths arms → IfThere MakingDepths other → MakingDepths (present base names i arms other)
+    pub present-depths : (arms : List ArmWalk) (other : Option Making) → AllByRecursion ArmWalkDepths arms → OfOther deep other → MakingDepths (present base names i arms other)
     present-depths arms other ha ho here s d =
         let t = past_choice s in
         let u = after t (arms_made arms s.choices 0 here t).parts in
@@ -161,14 +171,14 @@ module _ (base : ℕ) where
     condition-depths true t ht guard body here s d = giving base (λ depth a g. tt) (ht (in_block guard here.hybrid here) s d)
     condition-depths false t ht guard body here s d = giving base (λ depth a g. tt) (ht (in_block body here.hybrid here) s d)
 
-    moves-depths : (ms : List MoveWalk) → AllByRecursion (MoveHolds TestingDepths) ms → (guard body : ℕ) (states : List ℕ) (here : Here) (s : Counters) (d : ℕ) → Depths base s (moves_made base names i ms guard body states here s).parts (Below here d) Nothing
+    moves-depths : (ms : List MoveWalk) → AllByRecursion (OfMove deep) ms → (guard body : ℕ) (states : List ℕ) (here : Here) (s : Counters) (d : ℕ) → Depths base s (moves_made base names i ms guard body states here s).parts (Below here d) Nothing
     moves-depths [] hs guard body states here s d = nothing-depths base s (Below here d)
     moves-depths (m ∷ ms) hs guard body states here s d =
         let t = after s (m.test (condition_place m.strong guard body here) s).parts in
-        one-and-other base (condition-depths m.strong m.test hs.0 guard body here s d) (moves-depths ms hs.1 guard body states here t d)
+        one-and-other base (condition-depths m.strong m.test hs.0.test guard body here s d) (moves-depths ms hs.1 guard body states here t d)
 
     -- a state: its body, and the conditions of its moves
-    pub state-depths : (name : Name) (body : Making) (moves : List MoveWalk) → MakingDepths body → AllByRecursion (MoveHolds TestingDepths) moves → StateWalkDepths (record { name = name; walk = state_made base names i body moves })
+    pub state-depths : (name : Name) (body : Making) (moves : List MoveWalk) → MakingDepths body → AllByRecursion (OfMove deep) moves → StateWalkDepths (record { name = name; walk = state_made base names i body moves })
     state-depths name body moves hb hm of number states here s d =
         let t = past_block (past_block s) in
         let below = in_block (s.blocks + 1) here.hybrid here in

@@ -17,9 +17,10 @@ use Rattle.zl_meaning.specs.declared.occurrence.Form.TheVariants.{Op as Apply, I
 use Rattle.zl_flat.specs.declared.here.Here.{Here}
 use Rattle.zl_flat.specs.declared.here.Root.{Root}
 use Rattle.zl_flat.specs.Parts.{Parts, Counters, joined, one_occ, one_hidden, after, past_occ, past_hidden}
-use Rattle.zl_flat.specs.Instances.{Callee, Instance, in_call, occ_here, callee, first_root, root_occs}
+use Rattle.zl_flat.specs.Instances.{Copy, Callee, Instance, in_call, occ_here, callee, first_root, root_occs}
 use Rattle.zl_flat.specs.Operators.{infix_form, prefix_form, prefix_type}
 use Rattle.zl_flat.specs.Expressions.{Walk, Walked, walk_all, one_result, leaf, LinkWalk, links, chain, call, built_in, prefixed, arrow, followed, flow_walk, conditional}
+use Rattle.zl_flat.proofs.UsesExprTrees.{Kinds}
 use Rattle.zl_flat.proofs.WellFormedHeights.{IsBelow, LiesDeep, Depths, Both, IsAt, below-more, asking, giving, nothing-depths, in-turn, one-occ, occ-before, hidden-before}
 
 -- ---- what a walk asks and gives
@@ -51,9 +52,18 @@ module _ (base : ℕ) where
   LinkDepths l = (here : Here) (left : Root) (s : Counters) (d : ℕ) → Depths base s (l here left s).parts (Both (Below here d) (λ depth. d < depth left.occ)) (WalkGives d (l here left s))
 
   -- so for the copy of a declaration, which has a result
-  pub record CalleeDepths (c : Callee) : Type 0 where
-    pub depths : (here : Here) (roots : List Root) (s : Counters) (d : ℕ) → Depths base s (c here roots s).parts (Below here d) (RootsLie d (c here roots s).results)
-    pub some : (here : Here) (roots : List Root) (s : Counters) → 0 < length (c here roots s).results
+  pub record CopyDepths (here : Here) (roots : List Root) (s : Counters) (c : Copy) : Type 0 where
+    pub depths : (d : ℕ) → Depths base s c.parts (Below here d) (RootsLie d c.results)
+    pub some : 0 < length c.results
+
+  abbrev pub CalleeDepths : Callee → Type 0
+  CalleeDepths c = (here : Here) (roots : List Root) (s : Counters) → CopyDepths here roots s (c here roots s)
+
+  abbrev pub deep_exprs : Kinds
+  deep_exprs = record {
+    walked = λ here s w. (d : ℕ) → Depths base s w.parts (Below here d) (WalkGives d w);
+    linked = λ here left s w. (d : ℕ) → Depths base s w.parts (Both (Below here d) (λ depth. d < depth left.occ)) (WalkGives d w);
+  }
 
   -- ---- one behind the other
 
@@ -241,9 +251,9 @@ module _ (base : ℕ) where
       let copy = c inside arguments.roots u in
       let result = first_root copy.results in
       giving base (λ depth a g. let e = g.first in record { root = omega (arith, e); results = roots-lie d depth copy.results g.second.second })
-      (occ-before base d (λ depth a e g. lies-deep depth s.occs d here result.ty at (Result result.occ) e a (first-deeper d depth copy.results (hc.some inside arguments.roots u) g.second, tt))
+      (occ-before base d (λ depth a e g. lies-deep depth s.occs d here result.ty at (Result result.occ) e a (first-deeper d depth copy.results (hc inside arguments.roots u).some g.second, tt))
       (in-turn base (asking base (λ depth a. inside-call depth s.occs d a.second) (walk_all-depths args hs inside t (d + 1)))
-      (asking base (λ depth a. inside-call depth s.occs d a.first.second) (hc.depths inside arguments.roots u (d + 1)))))
+      (asking base (λ depth a. inside-call depth s.occs d a.first.second) ((hc inside arguments.roots u).depths (d + 1)))))
 
   -- a call lies above its arguments and the copy
   pub call-depths : (names : List (List ℕ)) (i : Instance) (x : Name) (args : List Walk) (c : Callee) → i.callees x.id ≡ Some c → CalleeDepths c → AllByRecursion WalkDepths args → WalkDepths (call base names i x args)

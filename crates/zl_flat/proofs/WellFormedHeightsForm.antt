@@ -16,50 +16,50 @@ use Rattle.zl_flat.specs.Equations.{eqn_walk}
 use Rattle.zl_flat.specs.Expansion.{found, with_callees, argument_definers, input_definers, param_place, body_copy, instance, decl_copy, main_here, main_block, main_parts, MainOf, sizes_of, main_size, main_form, form_of}
 use Rattle.zl_flat.proofs.WellFormedParts.{AllFrom, from-append, from-left, all-stand}
 use Rattle.zl_flat.proofs.WellFormedForm.{from-get}
-use Rattle.zl_flat.proofs.WellFormedDecls.{IsMainKept, known_after, nothing-known, roots-length}
-use Rattle.zl_flat.proofs.WellFormedWalks.{ExprLaws}
-use Rattle.zl_flat.proofs.WellFormedWalksEqns.{EqnLaws}
-use Rattle.zl_flat.proofs.WellFormedWalksDecls.{BodyHolds, DeclsHold, body-holds, callees-hold}
+use Rattle.zl_flat.proofs.WellFormedDecls.{IsMainKept, known_after}
+use Rattle.zl_flat.proofs.UsesExprTrees.{OfForms}
+use Rattle.zl_flat.proofs.UsesEqnTrees.{OfEquations}
+use Rattle.zl_flat.proofs.UsesDecls.{roots-length, inside-of, OfDecl, decl-holds, nothing-known, has-calls, no_facts, all-facts, Copies, callees-hold}
 use Rattle.zl_flat.proofs.WellFormedHeights.{IsBelow, LiesDeep, LieDeep, Agrees, Depths, Nothing, asking, giving, in-turn, one-and-other, block-before, places-depths, definers-depths}
-use Rattle.zl_flat.proofs.WellFormedHeightsExprs.{Below, RootsLie, WalkDepths, LinkDepths, CalleeDepths, walk_all-depths, leaf-depths, chain-depths, built_in-depths, prefixed-depths, link-depths, conditional-depths, flow-depths, call-depths}
-use Rattle.zl_flat.proofs.WellFormedHeightsEqns.{MakingDepths, TestingDepths, ArmWalkDepths, StateWalkDepths, in_turn-depths, crossing-depths, event-depths, tested-depths, plain-depths, init-depths, der-depths, reset-depths, arm-depths, present-depths, state-depths, automaton-depths, body-depths}
+use Rattle.zl_flat.proofs.WellFormedHeightsExprs.{Below, RootsLie, CopyDepths, deep_exprs, walk_all-depths, leaf-depths, chain-depths, built_in-depths, prefixed-depths, link-depths, conditional-depths, flow-depths, call-depths}
+use Rattle.zl_flat.proofs.WellFormedHeightsEqns.{deep, in_turn-depths, crossing-depths, event-depths, tested-depths, plain-depths, init-depths, der-depths, reset-depths, arm-depths, present-depths, state-depths, automaton-depths, body-depths}
 
 module _ (base : ℕ) (names : List (List ℕ)) where
   -- ---- what is kept down the trees
 
-  expr-laws : (i : Instance) → ExprLaws base names i (CalleeDepths base) (WalkDepths base) (LinkDepths base)
-  expr-laws i = record {
-    literal = λ v at. leaf-depths base _ at _ refl;
-    variable = λ x v is. leaf-depths base _ x.at _ refl;
-    previous = λ x at v is. leaf-depths base _ at _ refl;
-    call = λ x args c is hc hs. call-depths base names i x args c is hc hs;
-    built_in = λ op at args hs. built_in-depths base names i op at args hs;
-    prefixed = λ op at x h. prefixed-depths base names i op at x h;
-    chain = λ x ls h hs. chain-depths base x ls h hs;
-    link = λ l h here left s d. link-depths base l.op l.at l.arg h here left s d;
-    flow = λ op at x y h g. flow-depths base names i op at x y h g;
-    conditional = λ at c x y hc hx hy. conditional-depths base names i at c x y hc hx hy;
+  forms-deep : (i : Instance) → OfForms (deep_exprs base) (CopyDepths base) base names i
+  forms-deep i = record {
+    literal = λ v at here s. leaf-depths base _ at _ refl here s;
+    reading = λ v x is here s. leaf-depths base _ x.at _ refl here s;
+    lasting = λ v x at is here s. leaf-depths base _ at _ refl here s;
+    building = λ op at args hs here s. built_in-depths base names i op at args hs here s;
+    calling = λ x args c is hc hs here s. call-depths base names i x args c is hc hs here s;
+    prefixing = λ op at x hx here s. prefixed-depths base names i op at x hx here s;
+    chaining = λ x ls hx hls here s. chain-depths base x ls hx hls here s;
+    linking = λ l hx here left s d. link-depths base l.op l.at l.arg hx here left s d;
+    flowing = λ op at x y hx hy here s. flow-depths base names i op at x y hx hy here s;
+    choosing = λ at c x y hc hx hy here s. conditional-depths base names i at c x y hc hx hy here s;
   }
 
-  eqn-laws : (i : Instance) → EqnLaws base names i (WalkDepths base) (TestingDepths base) (MakingDepths base) (ArmWalkDepths base) (StateWalkDepths base)
-  eqn-laws i = record {
+  equations-deep : (i : Instance) → OfEquations (deep base) base names i
+  equations-deep i = record {
     crossing = crossing-depths base names i;
     event = event-depths base names i;
-    tested = tested-depths base names i;
-    plain = plain-depths base names i;
-    init = init-depths base names i;
-    der = der-depths base names i;
-    reset = reset-depths base names i;
-    arm = arm-depths base names i;
+    testing = tested-depths base names i;
+    plain = λ left right known hr. plain-depths base names i left right hr;
+    der = λ x slope start resets known. der-depths base names i x slope start resets;
+    init = λ x value known. init-depths base names i x value;
     present = present-depths base names i;
-    state = state-depths base names i;
+    arm = arm-depths base names i;
     automaton = automaton-depths base names i;
-    body = body-depths base names i;
+    state = state-depths base names i;
+    reset = reset-depths base names i;
+    body = λ locals eqs known. body-depths base names i locals eqs;
   }
 
   -- ---- declarations
 
-  body_copy-depths : (i : Instance) (d : Decl) (definers : List Given) → BodyHolds base names i (WalkDepths base) (MakingDepths base) d → (here : Here) (s : Counters) (depth : ℕ) →
+  body_copy-depths : (i : Instance) (d : Decl) (definers : List Given) → OfDecl (deep base) base names i d → (here : Here) (s : Counters) (depth : ℕ) →
       Depths base s (body_copy base names i d definers here s).parts (Below here depth) (RootsLie depth (body_copy base names i d definers here s).results)
   body_copy-depths i d definers h here s depth =
       let params = joined (some_places (map (param_place i here) d.params)) (some_definers definers) in
@@ -71,22 +71,16 @@ module _ (base : ℕ) (names : List (List ℕ)) where
       (in-turn base (walk_all-depths base (map (expr_walk base names i) d.results) h.results here t depth)
       (asking base (λ depths a. a.first) (in_turn-depths base (map (eqn_walk base names i) d.eqs) h.equations here (after t results.parts) depth)))))
 
-  -- for any form `f`
-  decls-hold : (f : FlatForm) → DeclsHold f base names (CalleeDepths base)
+  copies-deep : Copies (CopyDepths base) no_facts base names
   unfolding decl_copy
-  decls-hold f cs sizes d k counted all known kept = record {
-    depths = λ here roots s depth.
-        let i = instance base names (found cs) sizes d here.block s.places in
-        body_copy-depths i d.decl (argument_definers here s.places d.decl.params roots)
-        (body-holds f base names (CalleeDepths base) (WalkDepths base) (LinkDepths base) (TestingDepths base) (MakingDepths base) (ArmWalkDepths base) (StateWalkDepths base) cs sizes d here.block s.places k counted all known kept (expr-laws i) (eqn-laws i))
-        here s depth;
-    some = λ here roots s.
-        let i = instance base names (found cs) sizes d here.block s.places in
-        let params = joined (some_places (map (param_place i here) d.decl.params)) (some_definers (argument_definers here s.places d.decl.params roots)) in
-        let count = roots-length f base names d.decl.results i here (after s params) in
-        let some = counted.some in
-        omega (arith, count, some);
-  }
+  copies-deep cs sizes d k counted kept more all known here roots s =
+      let i = instance base names (found cs) sizes d here.block s.places in
+      let a = inside-of base names (found cs) sizes d here.block s.places k counted kept in
+      let h = decl-holds (deep base) (CopyDepths base) base names i k d.decl (forms-deep i) (equations-deep i) (has-calls (CopyDepths base) names cs i k refl all known) a in
+      let params = joined (some_places (map (param_place i here) d.decl.params)) (some_definers (argument_definers here s.places d.decl.params roots)) in
+      let count = roots-length base names d.decl.results i here (after s params) in
+      let some = counted.some in
+      record { depths = λ depth. body_copy-depths i d.decl (argument_definers here s.places d.decl.params roots) h here s depth; some = omega (arith, count, some) }
 
 -- ---- lists of depths
 
@@ -200,8 +194,8 @@ main-heights names m h =
     let d = m.main.decl in
     let here = main_here base names d in
     let definers = input_definers 0 d.params in
-    let f = main_form names m in
-    let callees = callees-hold f base names (CalleeDepths base) (decls-hold base names f) [] [] (built_in names) m.before tt (nothing-known f base names) h.counted h.before in
-    let body = body-holds f base names (CalleeDepths base) (WalkDepths base) (LinkDepths base) (TestingDepths base) (MakingDepths base) (ArmWalkDepths base) (StateWalkDepths base) cs sizes m.main 0 0 (known_after (built_in names) m.before)
-    h.counted_main callees.0 callees.1 h.main (expr-laws base names i) (eqn-laws base names i) in
+    let k = known_after (built_in names) m.before in
+    let callees = callees-hold (CopyDepths base) no_facts base names (copies-deep base names) [] [] (built_in names) m.before tt (nothing-known names) h.counted h.before (all-facts base names [] [] m.before) in
+    let a = inside-of base names (found cs) sizes m.main 0 0 k h.counted_main h.main in
+    let body = decl-holds (deep base) (CopyDepths base) base names i k d (forms-deep base names i) (equations-deep base names i) (has-calls (CopyDepths base) names cs i k refl callees.0 callees.1) a in
     form-of-heights base _ _ _ _ h.hidden_behind (block-before base (main_block base names d) (body_copy-depths base names i d definers body here (past_block start) 0))

@@ -17,7 +17,7 @@ use Rattle.zl_ast.specs.Assignments.{HaveTypes, HaveTypesInEach, end, next, end_
 use Rattle.zl_ast.specs.Spots.{Spot, all_spots, decl_spots}
 use Rattle.zl_ast.specs.Parsed.{Before, Grow, places, spots}
 use Rattle.zl_flat.specs.Expansion.{Scoped, scoped, MainOf, behind, main_of, program_main}
-use Rattle.zl_flat.proofs.WellFormedExprTrees.{none-left}
+use Rattle.zl_flat.proofs.RulesKept.{none-left}
 use Rattle.zl_flat.proofs.WellFormedDecls.{IsMainKept, known_after}
 use Rattle.zl_flat.proofs.WellFormedProgram.{main-split}
 use Rattle.zl_flat.proofs.WellFormedSizesForm.{main-kept}

@@ -54,7 +54,7 @@ use Rattle.zl_ast.specs.Parsed.{IsParsed}
 use Rattle.zl_ast.specs.Assignments.{joined}
 use Rattle.zl_ast.specs.TypeEqualities.{called, called_step}
 use Rattle.zl_flat.proofs.WellFormedParts.{all-append}
-use Rattle.zl_flat.proofs.WellFormedGrammar.{Written, literal, left_side, annotated, some_states, IsLeftOf, IsAnnotation, IsWritten, AllWritten, expr_step, link_step, expr_written, link_written, exprs_written, ups_written, cond_written, start_written, reset_arm_written, moves_written, eqn_step, arm_step, body_step, state_step, eqn_written, arm_written, body_written, state_written, eqns_written, params_written, decl_written, decls_written}
+use Rattle.zl_flat.proofs.WellFormedGrammar.{Written, literal, left_side, annotated, some_states, some_arms, IsLeftOf, IsAnnotation, IsWritten, AllWritten, expr_step, link_step, expr_written, link_written, exprs_written, event_written, cond_written, start_written, reset_arm_written, moves_written, eqn_step, arm_step, body_step, state_step, eqn_written, arm_written, body_written, state_written, eqns_written, params_written, decl_written, decls_written}
 
 -- ---- forms of a tree
 
@@ -116,7 +116,7 @@ abbrev some_written : {A : Type 0} → (A → List Written) → Option A → Lis
 some_written s None = []
 some_written s (Some x) = s x
 
-written-Present : (at : Pos) (arms : List Arm) (other : Option Body) → eqn_written (eqn.Present at arms other) ≡ joined (map arm_written arms) ++ some_written body_written other
+written-Present : (at : Pos) (arms : List Arm) (other : Option Body) → eqn_written (eqn.Present at arms other) ≡ some_arms (length (map arm_written arms)) ∷ (joined (map arm_written arms) ++ some_written body_written other)
 unfolding eqn_written arm_written body_written
 written-Present at arms None = ap eqn_written (sym (eqn.rolls-Present at arms None)) ∙ fold-roll-Eqn (List Written) (List Written) (List Written) (List Written) eqn_step arm_step body_step state_step (open_eqn.Present at arms None)
 written-Present at arms (Some b) =
@@ -298,11 +298,15 @@ module _ (count : ℕ) where
 
   -- ---- conditions and moves
 
+  not-empty : {A : Type 0} {k : TokenKind} {X : Phrase A} (ts : List Token) (xs : List A) (us : List Token) → ListOf k X ts xs us → 0 < length xs
+  not-empty _ _ _ (phrases.last h _) = omega arith
+  not-empty _ _ _ (phrases.more h k hs) = omega arith
+
   up_within : (n : ℕ) → Within (λ (u : Up). expr_written u.arg) (IsUp n)
   up_within _ _ _ _ (q.up {n = n} u o h c) = skipped u ▸ (skipped o ▸ moved (append_none _) (expr_within n _ _ _ h ▸ skipped c))
 
-  event_within : (n : ℕ) → Within ups_written (IsEvent n)
-  event_within n = a_list (λ (u : Up). expr_written u.arg) (up_within n)
+  event_within : (n : ℕ) → Within event_written (IsEvent n)
+  event_within n _ _ _ h = behind (not-empty _ _ _ h) (a_list (λ (u : Up). expr_written u.arg) (up_within n) _ _ _ h)
 
   cond_within : (n : ℕ) → Within cond_written (IsCond n)
   cond_within n _ _ _ (q.event h) = event_within n _ _ _ h
@@ -348,10 +352,6 @@ module _ (count : ℕ) where
   on-left (x ∷ []) g = tt
   on-left (x ∷ y ∷ xs) g = tt
 
-  not-empty : {A : Type 0} {k : TokenKind} {X : Phrase A} (ts : List Token) (xs : List A) (us : List Token) → ListOf k X ts xs us → 0 < length xs
-  not-empty _ _ _ (phrases.last h _) = omega arith
-  not-empty _ _ _ (phrases.more h k hs) = omega arith
-
   as-many : {A B : Type 0} (g : A → B) (xs : List A) → 0 < length xs → 0 < length (map g xs)
   as-many g [] h = absurd (omega (arith, h))
   as-many g (x ∷ xs) h = omega arith
@@ -390,7 +390,7 @@ module _ (count : ℕ) where
         moved (some_listed reset_arm_written resets) (a_maybe (λ rs. joined (map reset_arm_written rs)) (a_list reset_arm_written (reset_arm_within n)) _ _ _ r))))))
     eqn_within n _ _ _ (q.start w x e v) = moved (sym (written-Start _ _ _)) (skipped w ▸ (a_name x ▸ (skipped e ▸ expr_within n _ _ _ v)))
     eqn_within n _ _ _ (q.present_of w b arms o e) =
-        moved (sym (written-Present _ _ _)) (skipped w ▸ (a_pass b ▸ (a_list arm_written (arm_within n) _ _ _ arms ▸ moved (append_none _) (a_maybe body_written (body_within n) _ _ _ o ▸ a_pass e))))
+        moved (sym (written-Present _ _ _)) (behind (as-many arm_written _ (not-empty _ _ _ arms)) (skipped w ▸ (a_pass b ▸ (a_list arm_written (arm_within n) _ _ _ arms ▸ moved (append_none _) (a_maybe body_written (body_within n) _ _ _ o ▸ a_pass e)))))
     eqn_within n _ _ _ (q.automaton w b states e) =
         moved (sym (written-Automaton _ _)) (behind (as-many state_written _ (not-empty _ _ _ states)) (skipped w ▸ (a_pass b ▸ moved (append_none _) (a_list state_written (state_within n) _ _ _ states ▸ a_pass e))))
     eqn_within _ _ _ _ (q.reset {n = n} w h e c) = moved (sym (written-Reset _ _ _)) (skipped w ▸ (within _ _ _ h ▸ (skipped e ▸ cond_within n _ _ _ c)))
@@ -468,5 +468,5 @@ module _ (count : ℕ) where
   decls_within n _ _ (d.some_decls h hs) = decl_within n _ _ _ h ▸ decls_within n _ _ hs
 
 -- A tree of tokens whose numbers are in their ranges keeps all that the grammar says of it.
-pub parsed-written : (p : Program) (h : IsParsed p) (count : ℕ) → AllByRecursion (λ (t : Token). IsKind count t.kind) h.tokens → AllWritten (decls_written p.decls)
-parsed-written p h count fits = let b = decls_within count nesting_limit h.tokens p.decls h.is_program in (b.goes fits).0
+pub parsed-written : (p : Program) → IsParsed p → AllWritten (decls_written p.decls)
+parsed-written p h = let b = decls_within (length p.names) nesting_limit h.tokens p.decls h.is_program in (b.goes h.facts.kinds).0

@@ -5,7 +5,7 @@ use Rattle.zl_ast.specs.Names.{is_main}
 use Rattle.zl_ast.specs.NamesUsed.{Known}
 use Rattle.zl_ast.specs.NamesRules.{declared_with, decl_broken, decls_broken}
 use Rattle.zl_flat.specs.Expansion.{Scoped, MainOf, behind, main_of}
-use Rattle.zl_flat.proofs.WellFormedExprTrees.{none-left, none-right}
+use Rattle.zl_flat.proofs.RulesKept.{none-left, none-right}
 use Rattle.zl_flat.proofs.WellFormedDecls.{IsCounted, known_after}
 
 -- what holds of declarations holds of `main` and of those before it

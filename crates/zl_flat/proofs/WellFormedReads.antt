@@ -1,5 +1,5 @@
--- What an expression reads has its place in the form: it has the place's type, and a `last` stands where the place is declared.
-use Rattle.std.proofs.Common.{◌≡◌, ℕ, Bool, true, false, not, List, [], ◌∷◌, ◌++◌, map, length, slice_get, Option, Some, None, refl, sym, subst, ◌∙◌}
+-- What an expression reads has its place in the form: it has the place's type, and stands where the place is declared.
+use Rattle.std.proofs.Common.{◌≡◌, ℕ, Bool, true, false, not, ◌||◌, List, [], ◌∷◌, ◌++◌, map, length, slice_get, Option, Some, None, refl, sym, subst, ◌∙◌}
 use Rattle.std.specs.List.{AllByRecursion}
 use Rattle.zl_value.specs.declared.position.Pos.{Pos}
 use Rattle.zl_value.specs.declared.rule.Rule.TheVariants as rule
@@ -36,20 +36,20 @@ use Rattle.zl_flat.specs.Expressions as walk
 use Rattle.zl_flat.specs.Expressions.{Walk, walk_all, LinkWalk, links, last_of, call, call_or_built_in, read, expr_walk, link_walk}
 use Rattle.zl_flat.proofs.WellFormedParts.{Laws, Each, each-nothing, each-joined, each-left, each-right, each-one_occ, occ-first, behind-occ, hidden-first, behind-hidden}
 use Rattle.zl_flat.proofs.WellFormedGround.{standing, Sits}
-use Rattle.zl_flat.proofs.WellFormedExprTrees.{none-left, none-right, kept-if}
+use Rattle.zl_flat.proofs.RulesKept.{none-left, none-right, kept-if}
 use Rattle.zl_flat.proofs.WellFormedCopies.{VariableStands}
 
 -- ---- the words
 
--- a place that is read has this type, and one whose last value is read is declared by block `b` or by one that `b` stands in
+-- a place of which the value or the last value is read has this type, and is declared by block `b` or by one that `b` stands in
 abbrev pub FormPlaced : FlatForm → ℕ → Ty → Form → Type 0
-FormPlaced f b ty (Read p) = HasType f ty p
+FormPlaced f b ty (Read p) = HasType f ty p × IsDeclared f b p
 FormPlaced f b ty (Last p) = HasType f ty p × IsDeclared f b p
 FormPlaced f b ty _ = Unit {0}
 
--- a definer stands where its place is declared, or inside it; an input has its number
+-- a definer stands where its place is declared, or inside it; an input has its number, and no call
 abbrev pub DefinerPlaced : FlatForm → ℕ → Definer → Type 0
-DefinerPlaced f p (Input n) = (slice_get f.ins n ≡ Some p) × (place : PlaceInfo) × (slice_get f.places p ≡ Some place) × (place.block ≡ 0)
+DefinerPlaced f p (Input n) = (slice_get f.ins n ≡ Some p) × (place : PlaceInfo) × (slice_get f.places p ≡ Some place) × (place.block ≡ 0) × (place.call ≡ None)
 DefinerPlaced f p (Plain b k) = IsDeclared f b p
 DefinerPlaced f p (Der b slope resets) = IsDeclared f b p
 DefinerPlaced f p (Start b k) = IsDeclared f b p
@@ -78,6 +78,11 @@ pub record DeclaredHere (f : FlatForm) (i : Instance) (b id : ℕ) : Type 0 wher
   pub place : PlaceInfo
   pub place_is : slice_get f.places variable.place ≡ Some place
   pub within : IsWithin f place.block b
+
+-- the variable of this name has a place in the form, and is no constant
+pub record IsOwn (f : FlatForm) (k : Known) (id : ℕ) (v : Variable) : Type 0 where
+  pub stands : VariableStands f v
+  pub differs : among k.constants id ≡ false
 
 -- so is each of these variables
 abbrev pub CoversPlaces : FlatForm → Instance → ℕ → List ℕ → Type 0
@@ -122,7 +127,7 @@ module _ (f : FlatForm) (base : ℕ) where
     links-places [] hs here left s c sits = each-nothing (placing f) s
     links-places (l ∷ ls) hs here left s c sits = let one = l here left s in both-place s _ _ sits (hs.0 here left s c) (links-places ls hs.1 here one.root (after s one.parts) c)
 
-  module _ (names : List (List ℕ)) (i : Instance) (k : Known) (callees : (id : ℕ) (c : Callee) → i.callees id ≡ Some c → CalleePlaces c) (stands : (id : ℕ) (v : Variable) → variable_of i.variables id ≡ Some v → VariableStands f v) where
+  module _ (names : List (List ℕ)) (i : Instance) (k : Known) (callees : (id : ℕ) (c : Callee) → i.callees id ≡ Some c → CalleePlaces c) (stands : (id : ℕ) (v : Variable) → variable_of i.variables id ≡ Some v → IsOwn f k id v) where
     copy-places : (o : Option Callee) (id : ℕ) → i.callees id ≡ o → (here : Here) (roots : List Root) (s : Counters) → Sits f base s (callee o here roots s).parts → Places f s (callee o here roots s).parts
     copy-places None id e here roots s sits = each-nothing (placing f) s
     copy-places (Some c) id e here roots s sits = callees id c e here roots s sits
@@ -139,17 +144,22 @@ module _ (f : FlatForm) (base : ℕ) where
     applied-places visible (Some op) x args hs here s c sits = occ-places s _ _ sits tt (walk_all-places i visible args hs here (past_occ s) c)
 
     typed : (id : ℕ) (v : Variable) → variable_of i.variables id ≡ Some v → HasType f v.ty v.place
-    typed id v e = let a = stands id v e in record { place = a.place; is = a.is; typed = a.typed }
-
-    read-places : (visible : List ℕ) (v : Option Variable) (x : Name) → variable_of i.variables x.id ≡ v → WalkPlaces i visible (read base names i v x)
-    read-places visible None x e here s c sits = call-places visible x [] tt here s c sits
-    read-places visible (Some v) x e here s c sits = each-one_occ (placing f) s (occ_here here v.ty x.at (Read v.place)) (typed x.id v e)
+    typed id v e = let own = stands id v e in let a = own.stands in record { place = a.place; is = a.is; typed = a.typed }
 
     declared : (b id : ℕ) (v : Variable) → variable_of i.variables id ≡ Some v → DeclaredHere f i b id → IsDeclared f b v.place
     declared b id v e d = subst (λ (w : Variable). IsDeclared f b w.place) (same d.variable v (sym d.is ∙ e)) (d.place, d.place_is, d.within)
       where
         same : (a b : Variable) → Some a ≡ Some b → a ≡ b
         same a b e = cc
+
+    read-places : (visible : List ℕ) (v : Option Variable) (x : Name) (b d : Bool) → variable_of i.variables x.id ≡ v → among visible x.id ≡ b → among k.constants x.id ≡ d → not (b || d) ≡ false → WalkPlaces i visible (read base names i v x)
+    read-places visible None x b d e seen constant h here s c sits = call-places visible x [] tt here s c sits
+    read-places visible (Some v) x true d e seen constant h here s c sits = each-one_occ (placing f) s (occ_here here v.ty x.at (Read v.place)) (typed x.id v e, declared here.block x.id v e (c x.id seen))
+    read-places visible (Some v) x false true e seen constant h here s c sits = let own = stands x.id v e in absurd (differ (sym constant ∙ own.differs))
+      where
+        differ : true ≡ false → ⊥
+        differ e = cc
+    read-places visible (Some v) x false false e seen constant h here s c sits = absurd (cc)
 
     last-places : (visible : List ℕ) (v : Option Variable) (x : Name) (at : Pos) → variable_of i.variables x.id ≡ v → among visible x.id ≡ true → WalkPlaces i visible (λ here. last_of v here at)
     last-places visible (Some v) x at e h here s c sits = each-one_occ (placing f) s (occ_here here v.ty at (Last v.place)) (typed x.id v e, declared here.block x.id v e (c x.id h))
@@ -200,7 +210,9 @@ module _ (f : FlatForm) (base : ℕ) where
         (let step = map-Expr TheExpr TheLink Expr Link (λ e. e.0) (λ l. l.0) x in
         used.expr_step k (map-Expr Expr Link (ℕ → Uses) Uses (expr_uses k) (link_uses k) step) results visible ≡ [] → WalkPlaces i visible (walk.expr_step base names i (map-Expr Expr Link Walk LinkWalk (expr_walk base names i) (link_walk base names i) step)))
     expr-layer (open_expr.Lit v at) results visible h here s c sits = each-one_occ (placing f) s _ tt
-    expr-layer (open_expr.Var x) results visible h here s c sits = read-places visible (variable_of i.variables x.id) x refl here s c sits
+    expr-layer (open_expr.Var x) results visible h here s c sits =
+        let known = among visible x.id || among k.constants x.id in
+        read-places visible (variable_of i.variables x.id) x (among visible x.id) (among k.constants x.id) refl refl refl (kept-if (not known) rule.NameUnknown x.at h) here s c sits
     expr-layer (open_expr.Last x at) results visible h here s c sits =
         let unknown = broken_if (not (among visible x.id)) rule.NameUnknown x.at in
         let kept = kept-if (not (among visible x.id)) rule.NameUnknown x.at (none-left unknown (broken_if (among k.parameters x.id) rule.Last at) h) in

@@ -41,16 +41,15 @@ use Rattle.zl_flat.specs.Equations as make
 use Rattle.zl_flat.specs.Equations.{Making, in_turn, Testing, test_all, ArmWalk, arms_made, StateWalk, states_made, body_of_choice, condition_place, place_number, place_type, plain_definers, right_roots, start_definers, name_made, names_made, up_walk, event_walk, cond_walk, reset_arm_walk, start_walk, start_made, resets_made, moves_made, move_walk, eqn_walk, arm_walk, body_walk, one_state_walk}
 use Rattle.zl_flat.proofs.WellFormedParts.{all-left, all-right, each-nothing, each-left, each-right, each-one_place, each-some_definers, the_place, block-first, behind-block, choice-first, behind-choice, automaton-first, behind-automaton, site-first, behind-site}
 use Rattle.zl_flat.proofs.WellFormedGround.{IsPlaceAt, standing, Sits}
-use Rattle.zl_flat.proofs.WellFormedExprTrees.{none-left, none-right}
-use Rattle.zl_flat.proofs.WellFormedEqnTrees.{covers-one}
+use Rattle.zl_flat.proofs.RulesKept.{none-left, none-right}
+use Rattle.zl_flat.proofs.RulesKept.{covers-one}
 use Rattle.zl_flat.proofs.WellFormedSizes.{IsSized}
 use Rattle.zl_flat.proofs.WellFormedMentions as mention
 use Rattle.zl_flat.proofs.WellFormedMentions.{Mention, Mentioning, eqn_mentions, arm_mentions, body_mentions, state_mentions}
 use Rattle.zl_flat.proofs.WellFormedFirsts.{HasNumber}
 use Rattle.zl_flat.proofs.WellFormedPlaces.{past_block-places, past_choice-places, past_automaton-places, name-next, names-next, eqn-next, arm-next, state-next, arms-next, cond-next}
-use Rattle.zl_flat.proofs.WellFormedCopies.{VariableStands}
 use Rattle.zl_flat.proofs.WellFormedVisible.{EntryFine, EntriesFine, all-of-list, all-together, all-states, under-fine}
-use Rattle.zl_flat.proofs.WellFormedReads.{placing, Places, DefinerPlaced, DeclaredHere, CoversPlaces, covers-inside, both-place, occ-places, hidden-places, CalleePlaces, expr-places}
+use Rattle.zl_flat.proofs.WellFormedReads.{placing, Places, DefinerPlaced, DeclaredHere, IsOwn, CoversPlaces, covers-inside, both-place, occ-places, hidden-places, CalleePlaces, expr-places}
 
 -- what is visible in a block is visible in those that stand in it
 covers-in_block : (f : FlatForm) (i : Instance) (b : ℕ) (hybrid : Bool) (kind : BlockKind) (here : Here) (visible : List ℕ) → slice_get f.blocks b ≡ Some (inner_block here kind hybrid) → CoversPlaces f i here.block visible → CoversPlaces f i b visible
@@ -69,7 +68,7 @@ abbrev pub AllNumbered : Instance → List Mention → Type 0
 AllNumbered i ms = AllByRecursion (IsNumbered i) ms
 
 module _ (f : FlatForm) (base : ℕ) (names : List (List ℕ)) (i : Instance) (known : ℕ → Option Size) (sized : IsSized names i known) (k : Known) (callees : (id : ℕ) (c : Callee) → i.callees id ≡ Some c → CalleePlaces f base c)
-    (stands : (id : ℕ) (v : Variable) → variable_of i.variables id ≡ Some v → VariableStands f v) where
+    (stands : (id : ℕ) (v : Variable) → variable_of i.variables id ≡ Some v → IsOwn f k id v) where
   -- what reads and definers have of what is made where these names are visible
   abbrev pub TestingPlaces : List ℕ → Testing → Type 0
   TestingPlaces visible t = (here : Here) (s : Counters) → CoversPlaces f i here.block visible → Sits f base s (t here s).parts → Places f s (t here s).parts

@@ -1,15 +1,18 @@
 -- In the flat form of a program reads, `last`s and definers have their places.
-use Rattle.std.proofs.Common.{◌≡◌, ℕ, ◌+◌, Bool, true, false, not, if◌then◌else◌, nat_eq, List, [], ◌∷◌, ◌++◌, map, Option, Some, refl, sym, subst}
+use Rattle.std.proofs.Common.{◌≡◌, ℕ, ◌+◌, Bool, true, false, not, ◌||◌, if◌then◌else◌, nat_eq, List, [], ◌∷◌, ◌++◌, map, Option, Some, refl, sym, subst}
 use Rattle.std.specs.List.{AllByRecursion}
+use Rattle.std.proofs.lemmas.Bool.{eqb-true}
+use Rattle.zl_value.specs.declared.rule.Rule.TheVariants as rule
+use Rattle.zl_value.specs.declared.value.Ty.{Ty}
 use Rattle.zl_ast.specs.declared.scope.VarInfo.{VarInfo}
 use Rattle.zl_ast.specs.declared.expr.Expr.{Expr}
 use Rattle.zl_ast.specs.declared.eqn.Eqn.{Eqn}
 use Rattle.zl_ast.specs.declared.program.Decl.{Decl}
 use Rattle.zl_ast.specs.declared.program.Param.{Param}
-use Rattle.zl_ast.specs.Names.{among, with_id, is_main}
+use Rattle.zl_ast.specs.Names.{among, with_id, is_main, broken_if}
 use Rattle.zl_ast.specs.NamesDefined.{Outline, eqn_outline, eqns_outline}
 use Rattle.zl_ast.specs.NamesUsed.{Known, expr_uses, eqn_uses, values_uses, eqns_uses}
-use Rattle.zl_ast.specs.NamesRules.{is_local, declared_with, inside_of, with_visible, variables_broken, uses_broken, main_broken, decl_broken, decls_broken}
+use Rattle.zl_ast.specs.NamesRules.{is_local, twice, declared_with, inside_of, with_visible, variables_broken, uses_broken, main_broken, decl_broken, decls_broken}
 use Rattle.zl_ast.specs.Scopes as scope
 use Rattle.zl_meaning.specs.FlatForm.{FlatForm, IsWithin, Same}
 use Rattle.zl_meaning.specs.declared.place.PlaceInfo.{PlaceInfo}
@@ -19,25 +22,26 @@ use Rattle.zl_flat.specs.declared.here.Root.{Root}
 use Rattle.zl_flat.specs.declared.size.Size.{Size}
 use Rattle.zl_flat.specs.declared.given.Given.{Given}
 use Rattle.zl_flat.specs.Parts.{Counters, joined, some_places, some_definers, after}
-use Rattle.zl_flat.specs.Variables.{variable_of}
+use Rattle.zl_flat.specs.Variables.{variable_of, variables}
 use Rattle.zl_flat.specs.Sizes.{decl_size}
+use Rattle.zl_flat.specs.Numbering.{decl_numbering}
 use Rattle.zl_flat.specs.Instances.{Callee, Instance}
 use Rattle.zl_flat.specs.Expressions.{expr_walk, exprs_walk}
 use Rattle.zl_flat.specs.Equations.{eqns_walk}
 use Rattle.zl_flat.specs.Expansion.{Scoped, Named, found, with_name, with_callees, argument_definers, param_place, body_copy, instance, decl_copy}
 use Rattle.zl_flat.proofs.WellFormedParts.{AllFrom, all-left, all-right, each-nothing, each-joined, each-left, each-some_places, each-some_definers, the_places}
 use Rattle.zl_flat.proofs.WellFormedGround.{IsPlaceAt, standing, Sits}
-use Rattle.zl_flat.proofs.WellFormedExprTrees.{none-left, none-right}
-use Rattle.zl_flat.proofs.WellFormedEqnTrees.{covers-one}
+use Rattle.zl_flat.proofs.RulesKept.{none-left, none-right, kept-if, covers-one}
+use Rattle.zl_flat.proofs.DefinersDeclared.{neither-right}
 use Rattle.zl_flat.proofs.WellFormedSizes.{IsSized}
 use Rattle.zl_flat.proofs.WellFormedSizesForm.{AreOwnNames, KnowsBuiltIns, AllMake, built-ins-still, own-name, and-own-name, and-one-makes, sized-instance, decl-makes}
 use Rattle.zl_flat.proofs.WellFormedMentions.{Mention, eqn_mentions, firsts}
 use Rattle.zl_flat.proofs.WellFormedFirsts.{Distinct, HasNumber, of-firsts}
 use Rattle.zl_flat.proofs.WellFormedVariables.{param_mentions, behind_results, eqns_mentions, decl-numbers}
 use Rattle.zl_flat.proofs.WellFormedPlaces.{eqn-next}
-use Rattle.zl_flat.proofs.WellFormedCopies.{IsInOrder, kept-distinct, order-counted, VariableStands, InfoStands, results-next, copy-variables, copy-variable}
+use Rattle.zl_flat.proofs.WellFormedCopies.{IsInOrder, kept-twice, kept-distinct, order-counted, InfoStands, results-next, copy-variables, copy-variable}
 use Rattle.zl_flat.proofs.WellFormedVisible.{EntryFine, EntriesFine, all-of-list, decl-fine}
-use Rattle.zl_flat.proofs.WellFormedReads.{placing, Places, DefinerPlaced, DeclaredHere, CoversPlaces, both-place, CalleePlaces, WalkPlaces, walk_all-places, expr-places}
+use Rattle.zl_flat.proofs.WellFormedReads.{placing, Places, DefinerPlaced, DeclaredHere, IsOwn, CoversPlaces, both-place, CalleePlaces, WalkPlaces, walk_all-places, expr-places}
 use Rattle.zl_flat.proofs.WellFormedReadsEqns.{IsNumbered, AllNumbered, MakingReads, eqn-reads}
 
 -- ---- what is visible in the whole declaration
@@ -56,13 +60,31 @@ covers-visible f i ids (x ∷ infos) c h = covers-visible f i (if not (is_local 
     by_class true e = c
     by_class false e = covers-one (DeclaredHere f i i.block) ids x.name (among ids x.name) c (declared e)
 
+-- no variable has the name of a constant
+constants-differ : (c seen : List ℕ) (infos : List VarInfo) (types : List Ty) (own : List ℕ) → twice c seen infos ≡ [] → (id : ℕ) (v : Variable) → variable_of (variables infos types own) id ≡ Some v → among c id ≡ false
+constants-differ c seen [] types own h id v is = absurd (cc)
+constants-differ c seen (x ∷ infos) [] own h id v is = absurd (cc)
+constants-differ c seen (x ∷ infos) (ty ∷ types) [] h id v is = absurd (cc)
+constants-differ c seen (x ∷ infos) (ty ∷ types) (n ∷ own) h id v is =
+    by_equal (nat_eq x.name id) refl is (λ k. constants-differ c (with_id seen x.name) infos types own (none-right (broken_if one rule.NameTwice x.at) (twice c (with_id seen x.name) infos) h) id v k)
+  where
+    one : Bool
+    one = among seen x.name || among c x.name
+
+    first : among c x.name ≡ false
+    first = neither-right (among seen x.name) (among c x.name) (kept-if one rule.NameTwice x.at (none-left (broken_if one rule.NameTwice x.at) (twice c (with_id seen x.name) infos) h))
+
+    by_equal : (b : Bool) → nat_eq x.name id ≡ b → (if b then Some (record { name = x.name; ty = ty; place = n }) else variable_of (variables infos types own) id) ≡ Some v → (variable_of (variables infos types own) id ≡ Some v → among c id ≡ false) → among c id ≡ false
+    by_equal true e k more = subst (λ q. among c q ≡ false) (eqb-true x.name id e) first
+    by_equal false e k more = more k
+
 covers-nothing : (f : FlatForm) (i : Instance) (b : ℕ) → CoversPlaces f i b []
 covers-nothing f i b id h = absurd (cc)
 
 -- ---- the copy of a body
 
 module _ (f : FlatForm) (base : ℕ) (names : List (List ℕ)) (i : Instance) (known : ℕ → Option Size) (sized : IsSized names i known) (k : Known) (callees : (id : ℕ) (c : Callee) → i.callees id ≡ Some c → CalleePlaces f base c)
-    (stands : (id : ℕ) (v : Variable) → variable_of i.variables id ≡ Some v → VariableStands f v) where
+    (stands : (id : ℕ) (v : Variable) → variable_of i.variables id ≡ Some v → IsOwn f k id v) where
   results-read : (xs : List Expr) (visible : List ℕ) → values_uses k xs visible ≡ [] → AllByRecursion (WalkPlaces f base i visible) (map (expr_walk base names i) xs)
   results-read [] visible h = tt
   results-read (x ∷ xs) visible h =
@@ -140,7 +162,11 @@ module _ (f : FlatForm) (base : ℕ) (names : List (List ℕ)) where
       let counted = order-counted names k d kept order in
       let distinct = subst Distinct (sym order.infos) (kept-distinct names k d.decl kept) in
       let sized = sized-instance base names cs zs d here.block s.places make own counted in
-      let stands = copy-variable f base names (found cs) (found zs) d definers here s sized order distinct sits in
+      let constants = subst (λ vs. twice k.constants [] vs ≡ []) (sym order.infos) (kept-twice names k d.decl kept) in
+      let stands : (id : ℕ) (v : Variable) → variable_of i.variables id ≡ Some v → IsOwn f (inside_of k d.decl) id v = λ id v is. record {
+        stands = copy-variable f base names (found cs) (found zs) d definers here s sized order distinct sits id v is;
+        differs = constants-differ k.constants [] d.infos d.types (decl_numbering d.infos (found zs) d.decl s.places).own constants id v is;
+      } in
       let visible = with_visible [] (scope.variables d.decl) in
       let covers = scoped-covers cs zs k d make own order kept definers here s sits in
       let numbers = decl-numbers d.infos d.types (found zs) d.decl s.places order.infos distinct order.in_text order.types in

@@ -1,5 +1,5 @@
 -- In the flat form of `main` reads, `last`s, definers, inputs and results have their places.
-use Rattle.std.proofs.Common.{◌≡◌, ℕ, zero, suc, ◌+◌, ◌<◌, Bool, true, false, not, if◌then◌else◌, nat_eq, List, [], ◌∷◌, ◌++◌, map, length, slice_get, Some, refl, sym, ap, subst, ◌∙◌, arith}
+use Rattle.std.proofs.Common.{◌≡◌, ℕ, zero, suc, ◌+◌, ◌<◌, Bool, true, false, not, if◌then◌else◌, nat_eq, List, [], ◌∷◌, ◌++◌, map, length, slice_get, Some, None, refl, sym, ap, subst, ◌∙◌, arith}
 use Rattle.std.specs.List.{AllByRecursion}
 use Rattle.std.proofs.lemmas.Bool.{eqb-true}
 use Rattle.std.proofs.lemmas.Option.{slice_get_within}
@@ -29,7 +29,7 @@ use Rattle.zl_flat.specs.Equations.{place_number}
 use Rattle.zl_flat.specs.Expansion.{found, with_sizes, with_callees, variables_from, input_definers, param_place, body_copy, instance, main_here, main_block, main_parts, MainOf, sizes_of, main_size, definers_of, defined_places, result_step, result_place, result_places, form_of, main_form}
 use Rattle.zl_flat.proofs.WellFormedParts.{AllFrom, from-append, all-append, block-first, behind-block}
 use Rattle.zl_flat.proofs.WellFormedGround.{IsPlaceAt, standing}
-use Rattle.zl_flat.proofs.WellFormedExprTrees.{none-left, none-right, kept-if}
+use Rattle.zl_flat.proofs.RulesKept.{none-left, none-right, kept-if}
 use Rattle.zl_flat.proofs.WellFormedForm.{from-get, parts-sit}
 use Rattle.zl_flat.proofs.WellFormedDecls.{known_after}
 use Rattle.zl_flat.proofs.WellFormedSizesForm.{built-ins-known, callees-make, main-makes}
@@ -53,12 +53,12 @@ listed-get (suc m) a (suc j) lt = listed-get m (suc a) j (omega (arith, lt)) ∙
     one_more a j = omega arith
 
 -- an input that has its number
-inputs-placed : (f : FlatForm) (i : Instance) (here : Here) (n : ℕ) (ps : List Param) → here.block ≡ 0 → ((j : ℕ) → j < n + length ps → slice_get f.ins j ≡ Some j) → AllFrom (IsPlaceAt f) n (map (param_place i here) ps) →
+inputs-placed : (f : FlatForm) (i : Instance) (here : Here) (n : ℕ) (ps : List Param) → here.block ≡ 0 → here.call ≡ None → ((j : ℕ) → j < n + length ps → slice_get f.ins j ≡ Some j) → AllFrom (IsPlaceAt f) n (map (param_place i here) ps) →
     AllByRecursion (λ (g : Given). DefinerPlaced f g.place g.definer) (input_definers n ps)
-inputs-placed f i here n [] at ins h = tt
-inputs-placed f i here n (p ∷ ps) at ins h =
+inputs-placed f i here n [] at outside ins h = tt
+inputs-placed f i here n (p ∷ ps) at outside ins h =
     let a = h.0 in
-    ((ins n (omega arith), a.place, a.is, a.block ∙ at), inputs-placed f i here (n + 1) ps at (λ j lt. ins j (omega (arith, lt))) h.1)
+    ((ins n (omega arith), a.place, a.is, a.block ∙ at, a.call ∙ outside), inputs-placed f i here (n + 1) ps at outside (λ j lt. ins j (omega (arith, lt))) h.1)
 
 below-places : (f : FlatForm) (n : ℕ) (xs : List PlaceInfo) → AllFrom (IsPlaceAt f) n xs → AllByRecursion (λ p. p < length f.places) (listed (length xs) n (λ n. n))
 below-places f n [] h = tt
@@ -125,9 +125,9 @@ module _ (f : FlatForm) (i : Instance) (visible : List ℕ) (covers : CoversPlac
 
 -- ---- the form
 
--- a definer of this place stands in its block, or inside it; an input has its number
+-- a definer of this place stands in its block, or inside it; an input has its number, and no call
 abbrev pub DefinerWithin : FlatForm → ℕ → PlaceInfo → Definer → Type 0
-DefinerWithin f p place (Input n) = (slice_get f.ins n ≡ Some p) × (place.block ≡ 0)
+DefinerWithin f p place (Input n) = (slice_get f.ins n ≡ Some p) × (place.block ≡ 0) × (place.call ≡ None)
 DefinerWithin f p place (Plain b k) = IsWithin f place.block b
 DefinerWithin f p place (Der b slope resets) = IsWithin f place.block b
 DefinerWithin f p place (Start b k) = IsWithin f place.block b
@@ -143,7 +143,9 @@ same-place : (a b : PlaceInfo) → Some a ≡ Some b → a ≡ b
 same-place a b e = cc
 
 definer-within : (f : FlatForm) (p : ℕ) (place : PlaceInfo) (d : Definer) → slice_get f.places p ≡ Some place → DefinerPlaced f p d → DefinerWithin f p place d
-definer-within f p place (Input n) is h = (h.0, ap (λ (x : PlaceInfo). x.block) (same-place place h.1 (sym is ∙ h.2)) ∙ h.3)
+definer-within f p place (Input n) is h =
+    let same = same-place place h.1 (sym is ∙ h.2) in
+    (h.0, ap (λ (x : PlaceInfo). x.block) same ∙ h.3, ap (λ (x : PlaceInfo). x.call) same ∙ h.4)
 definer-within f p place (Plain b k) is h = subst (λ (x : PlaceInfo). IsWithin f x.block b) (same-place h.0 place (sym h.1 ∙ is)) h.2
 definer-within f p place (Der b slope resets) is h = subst (λ (x : PlaceInfo). IsWithin f x.block b) (same-place h.0 place (sym h.1 ∙ is)) h.2
 definer-within f p place (Start b k) is h = subst (λ (x : PlaceInfo). IsWithin f x.block b) (same-place h.0 place (sym h.1 ∙ is)) h.2
@@ -218,7 +220,7 @@ module _ (names : List (List ℕ)) (m : MainOf) (h : IsMainInOrder names m) wher
       let params = params-sit f base names i d definers here (past_block start) both.1 in
       let count = length-map (param_place i here) d.params in
       let read = scoped-reads f base names cs zs k m.main places make.0 make.1 h.order_main h.main definers here (past_block start) both.1
-      (inputs-placed f i here 0 d.params refl (λ j lt. listed-get (length d.params) 0 j (omega (arith, lt)) ∙ ap Some (no-zero j)) params) in
+      (inputs-placed f i here 0 d.params refl refl (λ j lt. listed-get (length d.params) 0 j (omega (arith, lt)) ∙ ap Some (no-zero j)) params) in
       let covers = scoped-covers f base names cs zs k m.main make.0 make.1 h.order_main h.main definers here (past_block start) both.1 in
       let visible = with_visible [] (scope.variables d) in
       let uses = none-right (variables_broken k d) (uses_broken names (inside_of k d) d) h.main in

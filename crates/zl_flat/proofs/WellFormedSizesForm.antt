@@ -32,7 +32,7 @@ use Rattle.zl_flat.specs.Expressions.{exprs_walk}
 use Rattle.zl_flat.specs.Equations.{eqns_walk}
 use Rattle.zl_flat.specs.Expansion.{Scoped, Named, found, with_name, with_sizes, with_callees, argument_definers, input_definers, param_place, body_copy, instance, decl_copy, main_here, main_block, main_parts, MainOf, sizes_of, main_size}
 use Rattle.zl_flat.proofs.PartsLaws.{places-joined, some-no_places}
-use Rattle.zl_flat.proofs.WellFormedExprTrees.{none-left, kept-if}
+use Rattle.zl_flat.proofs.RulesKept.{none-left, kept-if}
 use Rattle.zl_flat.proofs.WellFormedDecls.{IsCounted, IsMainKept, known_after}
 use Rattle.zl_flat.proofs.WellFormedSizes.{AsMany, many-nothing, many-joined, many-place, many-block, many-in_call, IsSized, expr-makes}
 use Rattle.zl_flat.proofs.WellFormedSizesEqns.{MakingMakes, before-definers, eqn-makes}

@@ -18,7 +18,7 @@ use Rattle.zl_meaning.specs.declared.place.Definer.TheVariants.{Input, Plain, De
 use Rattle.zl_meaning.specs.declared.place.DerArm.{DerArm}
 use Rattle.zl_meaning.specs.declared.place.PlaceInfo.{PlaceInfo}
 use Rattle.zl_meaning.specs.declared.occurrence.Form.{Form}
-use Rattle.zl_meaning.specs.declared.occurrence.Form.TheVariants.{Lit, Read, Last, Op as Apply, If, Arrow, Pre, Result, Up, Fired}
+use Rattle.zl_meaning.specs.declared.occurrence.Form.TheVariants.{Lit, Read, Last, Op as Apply, If, Arrow, Pre, Result, Up, Fired, Step}
 use Rattle.zl_meaning.specs.declared.occurrence.Occ.{Occ}
 use Rattle.zl_meaning.specs.declared.occurrence.SiteInfo.{SiteInfo}
 use Rattle.zl_flat.specs.declared.here.Root.{Root}
@@ -52,6 +52,7 @@ FormTyped f ty (Pre x) = OfType f ty x
 FormTyped f ty (Result x) = OfType f ty x
 FormTyped f ty (Up s) = ty ≡ Zero
 FormTyped f ty (Fired ks) = AllByRecursion (OfType f Zero) ks × (ty ≡ BoolTy)
+FormTyped f ty Step = ty ≡ BoolTy
 
 pub record OccurrenceTyped (f : FlatForm) (occ : Occ) : Type 0 where
   pub form : FormTyped f occ.ty occ.form

@@ -43,9 +43,9 @@ use Rattle.zl_flat.specs.Equations.{place_type, eqn_walk, eqns_walk}
 use Rattle.zl_flat.specs.Expansion.{Scoped, Named, found, with_name, with_callees, variables_from, argument_definers, input_definers, param_place, body_copy, instance, decl_copy}
 use Rattle.zl_flat.proofs.WellFormedParts.{AllFrom, all-left, all-right, each-joined, each-left, each-right, each-some_places, each-some_definers, the_places}
 use Rattle.zl_flat.proofs.WellFormedGround.{IsPlaceAt, standing, Sits}
-use Rattle.zl_flat.proofs.WellFormedExprTrees.{none-left, none-right, kept-if, IsVariable, Covers}
+use Rattle.zl_flat.proofs.RulesKept.{none-left, none-right, kept-if, IsVariable, Covers}
 use Rattle.zl_flat.proofs.WellFormedDecls.{IsCounted, known_after}
-use Rattle.zl_flat.proofs.WellFormedEqnTrees.{covers-one}
+use Rattle.zl_flat.proofs.RulesKept.{covers-one}
 use Rattle.zl_flat.proofs.WellFormedEntries.{EntriesKnown, covers-names, all-known, list-known}
 use Rattle.zl_flat.proofs.WellFormedGrammar.{IsWritten, AllWritten, expr_written, exprs_written, eqn_written, eqns_written, params_written, decl_written}
 use Rattle.zl_flat.proofs.WellFormedTypes.{ArgumentsTyped, GivenTyped, typing}

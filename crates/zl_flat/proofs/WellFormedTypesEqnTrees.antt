@@ -41,10 +41,10 @@ use Rattle.zl_flat.specs.Expressions.{Walk, expr_walk}
 use Rattle.zl_flat.specs.Equations as make
 use Rattle.zl_flat.specs.Equations.{Making, Testing, ArmWalk, StateWalk, place_number, place_type, up_walk, first_at, event_walk, cond_walk, reset_arm_walk, start_walk, move_walk, eqn_walk, arm_walk, body_walk, one_state_walk}
 use Rattle.zl_flat.proofs.WellFormedParts.{all-left, all-right}
-use Rattle.zl_flat.proofs.WellFormedExprTrees.{none-left, none-right, IsVariable, Covers}
+use Rattle.zl_flat.proofs.RulesKept.{none-left, none-right, IsVariable, Covers}
 use Rattle.zl_flat.proofs.WellFormedEntries.{EntriesKnown, NamesKnown, names-known, covers-names, covers-none, free-known, list-known, together-known, states-known}
 use Rattle.zl_flat.proofs.WellFormedGrammar as grammar
-use Rattle.zl_flat.proofs.WellFormedGrammar.{Written, IsWritten, AllWritten, IsLeftOf, left_side, some_states, expr_written, ups_written, cond_written, start_written, reset_arm_written, moves_written, eqn_written, arm_written, body_written, state_written}
+use Rattle.zl_flat.proofs.WellFormedGrammar.{Written, IsWritten, AllWritten, IsLeftOf, left_side, some_states, expr_written, ups_written, event_written, cond_written, start_written, reset_arm_written, moves_written, eqn_written, arm_written, body_written, state_written}
 use Rattle.zl_flat.proofs.WellFormedTypesExprs.{WalkTyped, walk-at-type}
 use Rattle.zl_flat.proofs.WellFormedTypesExprTrees.{same-length, KnowsTypes, NoZero, ExprKeeps, SeveralTyped, found-type, expr-typed}
 use Rattle.zl_flat.proofs.WellFormedTypesPlaces.{part-at}
@@ -101,8 +101,8 @@ module _ (f : FlatForm) (base : ℕ) (names : List (List ℕ)) (i : Instance) (k
       )
 
   -- an event is bool
-  event_walk-typed : (us : List Up) (visible : List ℕ) → Covers i visible → ups_uses k us visible ≡ [] → AllWritten (ups_written us) → Solves (ups_equalities e us) a → TestingTyped f base BoolTy (event_walk base names i us)
-  event_walk-typed us visible c h w m = event-typed f base names i (first_at us) (map (up_walk base names i) us) (ups-typed us visible c h w m)
+  event_walk-typed : (us : List Up) (visible : List ℕ) → Covers i visible → ups_uses k us visible ≡ [] → AllWritten (event_written us) → Solves (ups_equalities e us) a → TestingTyped f base BoolTy (event_walk base names i us)
+  event_walk-typed us visible c h w m = event-typed f base names i (first_at us) (map (up_walk base names i) us) (ups-typed us visible c h w.1 m)
 
   -- a condition is bool
   cond-typed : (z : Cond) (visible : List ℕ) → Covers i visible → cond_uses k z visible ≡ [] → AllWritten (cond_written z) → Solves (cond_equalities e z) a → TestingTyped f base BoolTy (cond_walk base names i z)
@@ -155,8 +155,8 @@ module _ (f : FlatForm) (base : ℕ) (names : List (List ℕ)) (i : Instance) (k
       let events = ups_equalities e r.event in
       let value = expr_equalities e r.value in (
         record {
-          event = event_walk-typed r.event visible c (none-left (ups_uses k r.event visible) (value_uses k r.value visible) uses) (all-left IsWritten (ups_written r.event) (expr_written r.value) written) (all-left (Meets a) events value met);
-          value = value-typed r.value Float visible is.0 c (none-right (ups_uses k r.event visible) (value_uses k r.value visible) uses) (all-right IsWritten (ups_written r.event) (expr_written r.value) written) (all-right (Meets a) events value met);
+          event = event_walk-typed r.event visible c (none-left (ups_uses k r.event visible) (value_uses k r.value visible) uses) (all-left IsWritten (event_written r.event) (expr_written r.value) written) (all-left (Meets a) events value met);
+          value = value-typed r.value Float visible is.0 c (none-right (ups_uses k r.event visible) (value_uses k r.value visible) uses) (all-right IsWritten (event_written r.event) (expr_written r.value) written) (all-right (Meets a) events value met);
         },
         resets-typed rs visible is.1 c (none-right (reset_arm_uses k r visible) rest h) (all-right IsWritten (reset_arm_written r) others w) (all-right (Meets a) (reset_arm_equalities e r) more m),
       )
@@ -321,7 +321,7 @@ module _ (f : FlatForm) (base : ℕ) (names : List (List ℕ)) (i : Instance) (k
       let uses = all_uses (map (arm_uses k) (map (λ x. x.0) arms)) visible in
       present-typed f base names i (map (arm_walk base names i) (map (λ x. x.0) arms)) None
       (arms-typed arms visible c (none-left uses [] h) (together-known i os (all-left (λ (v : VarInfo). IsVariable i v.name) (together os).entries [] l))
-      (all-left IsWritten (joined (map arm_written (map (λ x. x.0) arms))) [] w) (all-left (Meets a) (joined (map (arm_equalities e) (map (λ x. x.0) arms))) [] m)) tt
+      (all-left IsWritten (joined (map arm_written (map (λ x. x.0) arms))) [] w.1) (all-left (Meets a) (joined (map (arm_equalities e) (map (λ x. x.0) arms))) [] m)) tt
   eqn-layer (open_eqn.Present at arms (Some b)) visible c h l w m =
       let os = map arm_outline (map (λ x. x.0) arms) in
       let uses = all_uses (map (arm_uses k) (map (λ x. x.0) arms)) visible in
@@ -329,8 +329,8 @@ module _ (f : FlatForm) (base : ℕ) (names : List (List ℕ)) (i : Instance) (k
       let written = joined (map arm_written (map (λ x. x.0) arms)) in
       let met = joined (map (arm_equalities e) (map (λ x. x.0) arms)) in
       present-typed f base names i (map (arm_walk base names i) (map (λ x. x.0) arms)) (Some (body_walk base names i b.0))
-      (arms-typed arms visible c (none-left uses other h) (together-known i os (all-left (λ (v : VarInfo). IsVariable i v.name) (together os).entries (body_outline b.0).entries l)) (all-left IsWritten written (body_written b.0) w) (all-left (Meets a) met (body_equalities e b.0) m))
-      (b.1 visible c (none-right uses other h) (all-right (λ (v : VarInfo). IsVariable i v.name) (together os).entries (body_outline b.0).entries l) (all-right IsWritten written (body_written b.0) w) (all-right (Meets a) met (body_equalities e b.0) m)).0
+      (arms-typed arms visible c (none-left uses other h) (together-known i os (all-left (λ (v : VarInfo). IsVariable i v.name) (together os).entries (body_outline b.0).entries l)) (all-left IsWritten written (body_written b.0) w.1) (all-left (Meets a) met (body_equalities e b.0) m))
+      (b.1 visible c (none-right uses other h) (all-right (λ (v : VarInfo). IsVariable i v.name) (together os).entries (body_outline b.0).entries l) (all-right IsWritten written (body_written b.0) w.1) (all-right (Meets a) met (body_equalities e b.0) m)).0
   eqn-layer (open_eqn.Automaton at states) visible c h l w m =
       let os = map state_outline (map (λ x. x.0) states) in
       let some = w.0 in

@@ -40,7 +40,7 @@ use Rattle.zl_flat.specs.Operators.{value_type, built_in_op}
 use Rattle.zl_flat.specs.Expressions as walk
 use Rattle.zl_flat.specs.Expressions.{Walk, LinkWalk, call_or_built_in, last_of, read, expr_walk, link_walk}
 use Rattle.zl_flat.proofs.WellFormedParts.{all-left, all-right}
-use Rattle.zl_flat.proofs.WellFormedExprTrees.{none-left, none-right, kept-if, Covers}
+use Rattle.zl_flat.proofs.RulesKept.{none-left, none-right, kept-if, Covers}
 use Rattle.zl_flat.proofs.WellFormedGrammar as grammar
 use Rattle.zl_flat.proofs.WellFormedGrammar.{Written, IsWritten, AllWritten, expr_written, link_written}
 use Rattle.zl_flat.proofs.WellFormedTypes.{RootsTyped, ArgumentsTyped, root-at-type}

@@ -7,7 +7,7 @@ use Rattle.zl_value.specs.declared.value.Ty.{Ty}
 use Rattle.zl_value.specs.declared.value.Ty.TheVariants.{Bool as BoolTy, Float, Zero}
 use Rattle.zl_meaning.specs.FlatForm.{FlatForm}
 use Rattle.zl_meaning.specs.Uses.{parts}
-use Rattle.zl_meaning.specs.WellFormed.{Stands, IsBlock, HasBody, IsChoice, IsMove, IsAutomaton, IsResetArm, IsDefiner, IsPlace, AllStand, IsDeclared, IsForm, IsOccurrence, IsSite, IsAgain, HasHeights, KeepsBranches, IsWellFormed, body_count}
+use Rattle.zl_meaning.specs.WellFormed.{Stands, IsBlock, HasBody, IsChoice, IsMove, IsAutomaton, IsResetArm, IsDefiner, IsInCopy, IsPlace, AllStand, IsDeclared, IsForm, IsOccurrence, IsSite, IsAgain, HasHeights, KeepsBranches, IsWellFormed, body_count}
 use Rattle.zl_meaning.specs.declared.block.Block.{Block}
 use Rattle.zl_meaning.specs.declared.block.BlockKind.{BlockKind}
 use Rattle.zl_meaning.specs.declared.block.BlockKind.TheVariants.{Main, Arm, Guard, State, Reset}
@@ -19,7 +19,7 @@ use Rattle.zl_meaning.specs.declared.place.Definer.TheVariants.{Input, Plain, De
 use Rattle.zl_meaning.specs.declared.place.DerArm.{DerArm}
 use Rattle.zl_meaning.specs.declared.place.PlaceInfo.{PlaceInfo}
 use Rattle.zl_meaning.specs.declared.occurrence.Form.{Form}
-use Rattle.zl_meaning.specs.declared.occurrence.Form.TheVariants.{Lit, Read, Last, Op as Apply, If, Arrow, Pre, Result, Up, Fired}
+use Rattle.zl_meaning.specs.declared.occurrence.Form.TheVariants.{Lit, Read, Last, Op as Apply, If, Arrow, Pre, Result, Up, Fired, Step}
 use Rattle.zl_meaning.specs.declared.occurrence.Occ.{Occ}
 use Rattle.zl_meaning.specs.declared.occurrence.SiteInfo.{SiteInfo}
 use Rattle.zl_flat.specs.declared.given.Given.{Given}
@@ -132,6 +132,7 @@ form-is f b ty (Pre x) h site t d = stands f b x ty h.0 t
 form-is f b ty (Result x) h site t d = stands f b x ty h.0 t
 form-is f b ty (Up s) h site t d = (site.0, site.1, site.2, t)
 form-is f b ty (Fired ks) h site t d = (all-of f b Zero ks h t.0, t.1)
+form-is f b ty Step h site t d = t
 
 -- an occurrence that stands and is typed
 pub occurrence-is : (f : FlatForm) (occ : Occ) → OccurrenceStands f occ → OccurrenceTyped f occ → LastDeclared f occ.block occ.form → IsOccurrence f occ
@@ -200,8 +201,8 @@ definers-are f p place [] h t w = tt
 definers-are f p place (d ∷ ds) h t w = (definer-is f p place d h.0 t.0 w.0, definers-are f p place ds h.1 t.1 w.1)
 
 -- a place that stands, and whose definers stand and are typed
-pub place-is : (f : FlatForm) (p : ℕ) (place : PlaceInfo) → PlaceStands f place → (place.ty ≡ Zero → ⊥) → AllByRecursion (DefinerStands f) place.definers → AllByRecursion (DefinerTyped f place.ty) place.definers → AllByRecursion (DefinerWithin f p place) place.definers → IsPlace f p place
-place-is f p place h z ds ts ws = record { block = h.block; call = h.call; value = z; definers = definers-are f p place place.definers ds ts ws }
+pub place-is : (f : FlatForm) (p : ℕ) (place : PlaceInfo) → PlaceStands f place → (place.ty ≡ Zero → ⊥) → AllByRecursion (DefinerStands f) place.definers → AllByRecursion (DefinerTyped f place.ty) place.definers → AllByRecursion (DefinerWithin f p place) place.definers → AllByRecursion (IsInCopy f place.call) place.definers → IsPlace f p place
+place-is f p place h z ds ts ws cs = record { block = h.block; call = h.call; value = z; definers = definers-are f p place place.definers ds ts ws; copies = cs }
 
 -- ---- the fields of a well-formed form
 
@@ -227,12 +228,14 @@ module _ (f : FlatForm) (h : FormStands f) (t : FormTypes f) where
       ((n : ℕ) (auto : Auto) → slice_get f.automata n ≡ Some auto → (state : ℕ) → state < length auto.states → HasBody f (State n state)) → (n : ℕ) (auto : Auto) → slice_get f.automata n ≡ Some auto → IsAutomaton f n auto
   automata-are guards bodies n auto is = automaton-is f n auto (h.automata n auto is) (t.automata n auto is) (guards n auto is) (bodies n auto is)
 
-  -- the places of the form, where their definers stand in the places' blocks
-  pub places-are : ((p : ℕ) (place : PlaceInfo) → slice_get f.places p ≡ Some place → AllByRecursion (DefinerWithin f p place) place.definers) → (p : ℕ) (place : PlaceInfo) → slice_get f.places p ≡ Some place → IsPlace f p place
-  places-are within p place is = place-is f p place (h.places p place is) (t.places p place is) (h.definers p place is) (t.definers p place is) (within p place is)
+  -- the places of the form, where their definers stand in the places' blocks, and what these name in the places' copies
+  pub places-are : ((p : ℕ) (place : PlaceInfo) → slice_get f.places p ≡ Some place → AllByRecursion (DefinerWithin f p place) place.definers) →
+      ((p : ℕ) (place : PlaceInfo) → slice_get f.places p ≡ Some place → AllByRecursion (IsInCopy f place.call) place.definers) → (p : ℕ) (place : PlaceInfo) → slice_get f.places p ≡ Some place → IsPlace f p place
+  places-are within copies p place is = place-is f p place (h.places p place is) (t.places p place is) (h.definers p place is) (t.definers p place is) (within p place is) (copies p place is)
 
 -- What is left to ask of a flat form whose parts stand and are typed: that each body is there once, that what a `last` and a
--- definer name is declared where they stand, and the fields that speak of the whole form.
+-- definer name is declared where they stand, that what a definer names stands in its place's copy, and the fields that speak
+-- of the whole form.
 pub record IsWellFormedBut (f : FlatForm) : Type 0 where
   pub main : 0 < length f.blocks
   pub arms : (n : ℕ) (choice : Choice) → slice_get f.choices n ≡ Some choice → (arm : ℕ) → arm < body_count choice → HasBody f (Arm n arm)
@@ -240,6 +243,7 @@ pub record IsWellFormedBut (f : FlatForm) : Type 0 where
   pub states : (n : ℕ) (auto : Auto) → slice_get f.automata n ≡ Some auto → (state : ℕ) → state < length auto.states → HasBody f (State n state)
   pub lasts : (k : ℕ) (occ : Occ) → slice_get f.occs k ≡ Some occ → LastDeclared f occ.block occ.form
   pub definers : (p : ℕ) (place : PlaceInfo) → slice_get f.places p ≡ Some place → AllByRecursion (DefinerWithin f p place) place.definers
+  pub copies : (p : ℕ) (place : PlaceInfo) → slice_get f.places p ≡ Some place → AllByRecursion (IsInCopy f place.call) place.definers
   pub again : AllByRecursion (IsAgain f) f.again
   pub ins : AllByRecursion (λ p. p < length f.places) f.ins
   pub outs : AllByRecursion (λ p. p < length f.places) f.outs
@@ -253,7 +257,7 @@ well-formed f h t r = record {
   blocks = blocks-are f h t;
   choices = choices-are f h t r.arms;
   automata = automata-are f h t r.guards r.states;
-  places = places-are f h t r.definers;
+  places = places-are f h t r.definers r.copies;
   occs = occs-are f h t r.lasts;
   sites = sites-are f h t;
   again = r.again;

@@ -3,8 +3,6 @@ use Rattle.std.proofs.Common.{◌≡◌, ℕ, ◌<◌, List, [], ◌∷◌, map,
 use Rattle.std.specs.List.{AllByRecursion}
 use Rattle.zl_value.specs.Lists.{listed}
 use Rattle.zl_value.specs.declared.value.Ty.{Ty}
-use Rattle.zl_lexer.specs.Facts.{IsKind}
-use Rattle.zl_lexer.specs.declared.token.Token.{Token}
 use Rattle.zl_ast.specs.declared.program.Decl.{Decl}
 use Rattle.zl_ast.specs.declared.program.Program.{Program}
 use Rattle.zl_ast.specs.NamesUsed.{Known}
@@ -22,7 +20,7 @@ use Rattle.zl_flat.specs.Instances.{Callee}
 use Rattle.zl_flat.specs.Expansion.{Scoped, Named, found, with_name, with_sizes, with_callees, variables_from, argument_definers, input_definers, body_copy, instance, decl_copy, main_here, main_block, main_parts, MainOf, sizes_of, main_size, main_form, form_of, result_places, scoped, program_main}
 use Rattle.zl_flat.proofs.WellFormedParts.{all-right, behind-block}
 use Rattle.zl_flat.proofs.WellFormedGround.{standing}
-use Rattle.zl_flat.proofs.WellFormedExprTrees.{none-left, none-right}
+use Rattle.zl_flat.proofs.RulesKept.{none-left, none-right}
 use Rattle.zl_flat.proofs.WellFormedForm.{parts-sit}
 use Rattle.zl_flat.proofs.WellFormedDecls.{IsMainKept, known_after}
 use Rattle.zl_flat.proofs.WellFormedSizesForm.{AreOwnNames, KnowsBuiltIns, AllMake, built-ins-known, built-ins-still, own-name, and-own-name, and-one-makes, sized-instance, decl-makes, callees-make}
@@ -102,16 +100,16 @@ each-has-result [] w = tt
 each-has-result (d ∷ ds) w = (w.0, each-has-result ds (all-right IsWritten (decl_written d) (decls_written ds) w))
 
 -- A program that is the tree of a text's tokens, breaks no rule of names and has types.
-pub parsed-order : (p : Program) (types : List (List Ty)) → violations p ≡ [] → IsTyping (equalities p) (scopes p) types → (h : IsParsed p) (count : ℕ) → AllByRecursion (λ (t : Token). IsKind count t.kind) h.tokens → IsTypedInOrder p types
-parsed-order p types none typing h count fits =
+pub parsed-order : (p : Program) (types : List (List Ty)) → violations p ≡ [] → IsTyping (equalities p) (scopes p) types → IsParsed p → IsTypedInOrder p types
+parsed-order p types none typing h =
     let grow = laws.places_grow p h in
-    record { equalities = equalities p; typed = typing.types_of_variables; kept = none; in_text = grow.0; some = each-has-result p.decls (parsed-written p h count fits) }
+    record { equalities = equalities p; typed = typing.types_of_variables; kept = none; in_text = grow.0; some = each-has-result p.decls (parsed-written p h) }
 
 -- The flat form that its `main` expands to keeps what a flat form keeps of types.
 pub parsed-types : (p : Program) (types : List (List Ty)) (m : MainOf) → program_main p (scopes p) types ≡ Some m → violations p ≡ [] → IsTyping (equalities p) (scopes p) types →
-    (h : IsParsed p) (count : ℕ) → AllByRecursion (λ (t : Token). IsKind count t.kind) h.tokens → FormTypes (main_form p.names m)
-parsed-types p types m is none typing h count fits =
-    let order = parsed-order p types none typing h count fits in
+    IsParsed p → FormTypes (main_form p.names m)
+parsed-types p types m is none typing h =
+    let order = parsed-order p types none typing h in
     let kept = program-kept p types order m is in
     let both = main-both IsInOrder p.names (scoped p.decls (scopes p) types) m is (decls-in-order p types order) in
-    program-types p types m is typing (parsed-written p h count fits) kept (places-found p.names m kept both.0 both.1)
+    program-types p types m is typing (parsed-written p h) kept (places-found p.names m kept both.0 both.1)

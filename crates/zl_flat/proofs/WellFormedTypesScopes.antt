@@ -14,8 +14,8 @@ use Rattle.zl_ast.specs.TypeEqualities.{Table, with_entry, with_places}
 use Rattle.zl_flat.specs.declared.variable.Variable.{Variable}
 use Rattle.zl_flat.specs.Variables.{variable_of, variables}
 use Rattle.zl_flat.specs.Instances.{Instance}
-use Rattle.zl_flat.proofs.WellFormedExprTrees.{none-left, none-right, kept-if, IsVariable, Covers}
-use Rattle.zl_flat.proofs.WellFormedEqnTrees.{covers-one}
+use Rattle.zl_flat.proofs.RulesKept.{none-left, none-right, kept-if, IsVariable, Covers}
+use Rattle.zl_flat.proofs.RulesKept.{covers-one}
 use Rattle.zl_flat.proofs.WellFormedEntries.{EntriesKnown}
 
 -- a truth is not both

@@ -1,148 +1,123 @@
 -- The worked programs, by computation of the walk.
-use Rattle.std.proofs.Common.{◌≡◌, ℕ, List, [], ◌∷◌, ◌++◌, Option, Some, refl, sym, ap, ◌∙◌, subst, arith}
-use Rattle.std.specs.Prelude.{pos, negsuc}
-use Rattle.zl_value.specs.Fraction.{whole}
-use Rattle.zl_value.specs.declared.value.Value.TheVariants.{F}
+use Rattle.std.proofs.Common.{◌≡◌, ℕ, ◌+◌, List, [], ◌∷◌, refl, arith}
+use Rattle.std.proofs.Math.Nat.{add-zero}
 use Rattle.zl_value.specs.declared.value.Ty.TheVariants.{Float}
-use Rattle.zl_value.specs.declared.position.Pos.{Pos}
-use Rattle.zl_value.specs.declared.value.Value.{Value}
-use Rattle.zl_ast.specs.declared.name.Name.{Name}
-use Rattle.zl_ast.specs.declared.operator.Prefix.{Prefix}
-use Rattle.zl_ast.specs.declared.operator.Prefix.TheVariants as prefix
-use Rattle.zl_ast.specs.declared.expr.Expr.{Expr}
-use Rattle.zl_ast.specs.declared.expr.Expr.TheVariants as tree
-use Rattle.zl_ast.specs.declared.expr.Expr.TheOpen as open_expr
-use Rattle.zl_ast.specs.declared.expr.Expr.TheFolds.{fold-roll-Expr}
-use Rattle.zl_ast.specs.declared.scope.VarClass.TheVariants.{Top}
-use Rattle.zl_meaning.specs.Worked.{at}
-use Rattle.zl_meaning.specs.declared.occurrence.Form.TheVariants.{Lit}
+use Rattle.zl_ast.specs.declared.scope.VarInfo.{VarInfo}
+use Rattle.zl_ast.specs.declared.scope.VarClass.TheVariants.{Param, Top}
 use Rattle.zl_flat.specs.declared.size.Size.{Size}
-use Rattle.zl_flat.specs.declared.variable.Variable.{Variable}
-use Rattle.zl_flat.specs.Parts.{Parts, nothing, joined, some_places, some_definers, one_block, one_place, one_occ, one_hidden, one_site, one_choice, one_automaton, after, past_block, past_occ, past_hidden, past_site, past_choice, past_automaton, start}
-use Rattle.zl_flat.specs.Variables.{variable_of, variables}
-use Rattle.zl_flat.specs.Sizes.{none, plus, a_place, an_occ, an_up, a_block, expr_size, eqn_size, decl_size}
-use Rattle.zl_flat.specs.Numbering.{both, in_turn, a_variable, of_calls, eqn_numbering, decl_numbering}
-use Rattle.zl_flat.specs.Operators.{value_type}
-use Rattle.zl_flat.specs.Instances.{Instance}
-use Rattle.zl_flat.specs.Expressions.{Walk, walk_all, leaf, read, prefixed, expr_walk}
-use Rattle.zl_flat.specs.Equations.{Making, in_turn as walk_in_turn, crossing, event, der, eqn_walk}
-use Rattle.zl_flat.specs.Expansion.{MainOf, found, main_block, main_here, form_of, result_places, result_step, result_place, main_size, main_parts, main_form}
+use Rattle.zl_flat.specs.Parts.{nothing, joined, some_places, some_definers, one_block, one_place, one_occ, one_hidden, one_site, one_choice, one_automaton, after, past_block, past_occ, past_hidden, past_site, past_choice, past_automaton}
+use Rattle.zl_flat.specs.Variables.{variables as variables_at}
+use Rattle.zl_flat.specs.Sizes.{none, plus, a_place, an_occ, an_up, a_block, in_call, decl_size}
+use Rattle.zl_flat.specs.Numbering.{decl_numbering}
+use Rattle.zl_flat.specs.Expansion.{found, main_size, sizes_of, result_places}
 use Rattle.zl_flat.specs.Limits.{Fits}
-use Rattle.zl_flat.specs.Worked.{name, variable, float, falling_resets, falls, falling_main, falling, falling_form, FallingExpands}
-use Rattle.zl_flat.proofs.SizeSteps.{size-lit, size-var, size-prefix, size-der}
-use Rattle.zl_flat.proofs.NumberingSteps.{numbering-der}
-use Rattle.zl_flat.proofs.ExprSteps.{walk-lit, walk-var, walk-prefix}
-use Rattle.zl_flat.proofs.EqnSteps.{make-der}
-
-module _ (base : ℕ) (names : List (List ℕ)) (i : Instance) where
-  on-lit : (v : Value) (p : Pos) → expr_walk base names i (tree.Lit v p) ≡ (λ here s. leaf here (value_type v) p (Lit v) s)
-  on-lit v p = λ j here s. walk-lit base names i here s v p j
-
-  on-var : (x : Name) → expr_walk base names i (tree.Var x) ≡ read base names i (variable_of i.variables x.id) x
-  on-var x = λ j here s. walk-var base names i here s x j
-
-  on-prefix : (op : Prefix) (p : Pos) (x : Expr) (w : Walk) → expr_walk base names i x ≡ w → expr_walk base names i (tree.Prefix op p x) ≡ prefixed base names i op p w
-  on-prefix op p x w e = (λ j here s. walk-prefix base names i here s op p x j) ∙ ap (prefixed base names i op p) e
-
-pub on-result : (vs : List Variable) (x : Name) → result_place vs (tree.Var x) ≡ result_step vs (open_expr.Var x)
-unfolding result_place
-on-result vs x = ap (result_place vs) (sym (tree.rolls-Var x)) ∙ fold-roll-Expr (List ℕ) (List ℕ) (result_step vs) (λ l. []) (open_expr.Var x)
+use Rattle.zl_flat.specs.Worked.{variable, falling_main, falling, falling_form, FallingExpands, ramp, calling_main, calling, calling_form, CallingExpands}
+use Rattle.zl_flat.proofs.KnownDecls.{KnownDecl}
+use Rattle.zl_flat.proofs.KnownForms.{form_by}
+use Rattle.zl_flat.proofs.KnownOutlines.{known_outlines}
+use Rattle.zl_flat.proofs.KnownTypes.{known_places, known_types}
+use Rattle.zl_flat.proofs.KnownWalks.{known_walks}
+use Rattle.zl_flat.proofs.NumberingSteps.{numbering_steps}
+use Rattle.zl_flat.proofs.SizeSteps.{size_steps}
+use Rattle.zl_flat.proofs.StructParts.{on-result}
+use Rattle.zl_flat.proofs.WorkedPrograms.{main_alone, alone_flat, main_behind, first_called, two_flat}
 
 -- ---- a variable that is reset
 
-abbrev falling_of : MainOf
-falling_of = record { before = []; main = record { decl = falling_main; infos = variable 1 1 37 Top ∷ []; types = Float ∷ [] } }
+abbrev falling_infos : List VarInfo
+falling_infos = variable 1 1 37 Top ∷ []
 
-abbrev x_at : ℕ → Name
-x_at column = name 1 1 column
+falling_known : KnownDecl falling_main
+falling_known = record {
+  outlines = search known_outlines depth 40 fits 3000;
+  places = search known_places depth 20 fits 2000;
+  typed_results = λ e. search known_types depth 40 fits 3000;
+  typed_eqs = λ e. search known_types depth 40 fits 3000;
+  results = λ base names i. search known_walks depth 40 fits 3000;
+  eqs = λ base names i. search known_walks depth 40 fits 3000;
+}
 
-module _ (known : ℕ → Option Size) where
-  of_x : (column : ℕ) → expr_size (variable 1 1 37 Top ∷ []) known (tree.Var (x_at column)) ≡ an_occ
-  of_x column = size-var (variable 1 1 37 Top ∷ []) known (x_at column)
+abbrev falling_size : Size
+falling_size = record { places = 1; occs = 7; sites = 1; blocks = 1; calls = 0 }
 
-  of_minus_x : expr_size (variable 1 1 37 Top ∷ []) known (tree.Prefix prefix.MinusDot (at 1 64) (tree.Var (x_at 67))) ≡ plus an_occ an_occ
-  of_minus_x = size-prefix (variable 1 1 37 Top ∷ []) known prefix.MinusDot (at 1 64) (tree.Var (x_at 67)) ∙ ap (plus an_occ) (of_x 67)
+falling_size_is : main_size (main_alone falling.names falling_main falling_infos (Float ∷ []) falling_known) ≡ falling_size
+unfolding main_size decl_size plus none a_place an_occ an_up a_block
+falling_size_is = simp size_steps
 
-  of_lit : (v : Value) (p : Pos) → expr_size (variable 1 1 37 Top ∷ []) known (tree.Lit v p) ≡ an_occ
-  of_lit v p = size-lit (variable 1 1 37 Top ∷ []) known v p
+falling_own : (decl_numbering falling_infos (found []) falling_main 0).own ≡ 0 ∷ []
+unfolding decl_numbering plus none a_place an_occ an_up a_block
+falling_own = simp (numbering_steps, size_steps)
 
-  abbrev resets_size : Size → Size → Size
-  resets_size argument value = plus (plus (plus (plus an_up argument) none) value) none
+falling_outs : result_places (variables_at falling_infos (Float ∷ []) (0 ∷ [])) falling_main.results ≡ 0 ∷ []
+falling_outs = simp on-result
 
-  of_falls : eqn_size (variable 1 1 37 Top ∷ []) known falls ≡ plus a_place (plus an_occ (plus an_occ (resets_size (plus an_occ an_occ) an_occ)))
-  of_falls =
-      size-der (variable 1 1 37 Top ∷ []) known (at 1 33) (x_at 37) _ _ _
-      ∙ (λ j. plus a_place (plus (of_lit (F (whole (negsuc 0))) (at 1 41) j) (plus (of_lit (F (whole (pos 1))) (at 1 51) j) (resets_size (of_minus_x j) (of_lit (F (whole (pos 1))) (at 1 73) j)))))
+falling_is : form_by 7 falling.names (main_alone falling.names falling_main falling_infos (Float ∷ []) falling_known) (found []) (0 ∷ []) (0 ∷ []) falling_known ≡ falling_form
+unfolding falling_known joined nothing some_places some_definers one_block one_place one_occ one_hidden one_site one_choice one_automaton after past_block past_occ past_hidden past_site past_choice past_automaton
+falling_is = refl
 
-  numbers_falls : eqn_numbering (variable 1 1 37 Top ∷ []) known falls ≡ both a_variable (both (of_calls an_occ) (both (of_calls an_occ) (of_calls (resets_size (plus an_occ an_occ) an_occ))))
-  numbers_falls =
-      (λ j n. numbering-der (variable 1 1 37 Top ∷ []) known n (at 1 33) (x_at 37) (tree.Lit (F (whole (negsuc 0))) (at 1 41)) (Some (float 1 1 51)) falling_resets j)
-      ∙ (λ j. both a_variable (both (of_calls (of_lit (F (whole (negsuc 0))) (at 1 41) j)) (both (of_calls (of_lit (F (whole (pos 1))) (at 1 51) j)) (of_calls (resets_size (of_minus_x j) (of_lit (F (whole (pos 1))) (at 1 73) j))))))
-
-  falling_size : decl_size (variable 1 1 37 Top ∷ []) known falling_main ≡ record { places = 1; occs = 7; sites = 1; blocks = 0; calls = 0 }
-  unfolding decl_size plus none a_place an_occ an_up
-  falling_size = λ j. plus none (plus (plus (of_x 21 j) none) (plus (of_falls j) none))
-
-  falling_numbers : decl_numbering (variable 1 1 37 Top ∷ []) known falling_main 0 ≡ record { own = 0 ∷ []; next = 1 }
-  unfolding decl_numbering plus none a_place an_occ an_up
-  falling_numbers = λ j. both (in_turn []) (both (of_calls (plus (of_x 21 j) none)) (in_turn (numbers_falls j ∷ []))) 0
-
-module _ (base : ℕ) (names : List (List ℕ)) (i : Instance) where
-  abbrev x_walk : ℕ → Walk
-  x_walk column = read base names i (variable_of i.variables 1) (x_at column)
-
-  abbrev lit_walk : Value → Pos → Walk
-  lit_walk v p here s = leaf here (value_type v) p (Lit v) s
-
-  abbrev falls_by : Walk → Walk → Walk → Walk → Making
-  falls_by slope begin argument value =
-      der base names i (x_at 37) slope (Some begin) (record { event = event base names i (at 1 61) (crossing base names i (at 1 61) argument ∷ []); value = value } ∷ [])
-
-  on_falls : eqn_walk base names i falls ≡ falls_by (lit_walk (F (whole (negsuc 0))) (at 1 41)) (lit_walk (F (whole (pos 1))) (at 1 51)) (prefixed base names i prefix.MinusDot (at 1 64) (x_walk 67)) (lit_walk (F (whole (pos 1))) (at 1 73))
-  on_falls =
-      (λ j here s. make-der base names i here s (at 1 33) (x_at 37) (tree.Lit (F (whole (negsuc 0))) (at 1 41)) (Some (float 1 1 51)) falling_resets j)
-      ∙ (λ j. falls_by (on-lit base names i (F (whole (negsuc 0))) (at 1 41) j) (on-lit base names i (F (whole (pos 1))) (at 1 51) j) (on-prefix base names i prefix.MinusDot (at 1 64) (tree.Var (x_at 67)) (x_walk 67) (on-var base names i (x_at 67)) j) (on-lit base names i (F (whole (pos 1))) (at 1 73) j))
-
-abbrev falling_in : List ℕ → Instance
-falling_in own = record { block = 0; infos = variable 1 1 37 Top ∷ []; variables = variables (variable 1 1 37 Top ∷ []) (Float ∷ []) own; callees = found [] }
-
-abbrev falling_copy : List (List ℕ) → List ℕ → Walk → Making → Parts
-falling_copy names own value eqs =
-    joined (one_block (main_block 7 names falling_main))
-    (joined (joined (some_places []) (some_definers []))
-    (joined (walk_all (value ∷ []) (main_here 7 names falling_main) (after (past_block start) (joined (some_places []) (some_definers [])))).parts
-    (walk_in_turn (eqs ∷ []) (main_here 7 names falling_main) (after (after (past_block start) (joined (some_places []) (some_definers []))) (walk_all (value ∷ []) (main_here 7 names falling_main) (after (past_block start) (joined (some_places []) (some_definers [])))).parts))))
-
--- with the counts, with the places, and with the walks written out
-by_counts : (names : List (List ℕ)) → main_form names falling_of ≡ form_of (main_parts 7 names (found []) (found []) falling_of.main) [] (result_places (variables (variable 1 1 37 Top ∷ []) (Float ∷ []) (0 ∷ [])) falling_main.results)
-unfolding main_form main_size plus none a_block
-by_counts names = λ j.
-    form_of (main_parts (plus a_block (falling_size (found []) j)).occs names (found []) (found []) falling_of.main) [] (result_places (variables (variable 1 1 37 Top ∷ []) (Float ∷ []) (falling_numbers (found []) j).own) falling_main.results)
-
-by_places : (names : List (List ℕ)) → main_parts 7 names (found []) (found []) falling_of.main ≡ falling_copy names (0 ∷ []) (expr_walk 7 names (falling_in (0 ∷ [])) (tree.Var (x_at 21))) (eqn_walk 7 names (falling_in (0 ∷ [])) falls)
-unfolding main_parts
-by_places names = λ j.
-    falling_copy names (falling_numbers (found []) j).own
-    (expr_walk 7 names (falling_in (falling_numbers (found []) j).own) (tree.Var (x_at 21)))
-    (eqn_walk 7 names (falling_in (falling_numbers (found []) j).own) falls)
-
-by_walks : (names : List (List ℕ)) → form_of (falling_copy names (0 ∷ []) (expr_walk 7 names (falling_in (0 ∷ [])) (tree.Var (x_at 21))) (eqn_walk 7 names (falling_in (0 ∷ [])) falls)) [] (result_places (variables (variable 1 1 37 Top ∷ []) (Float ∷ []) (0 ∷ [])) falling_main.results) ≡ falling_form
-unfolding joined nothing some_places some_definers one_block one_place one_occ one_hidden one_site one_choice one_automaton after past_block past_occ past_hidden past_site past_choice past_automaton
-by_walks names = λ j.
-    form_of
-    (falling_copy names (0 ∷ []) (on-var 7 names (falling_in (0 ∷ [])) (x_at 21) j) (on_falls 7 names (falling_in (0 ∷ [])) j))
-    []
-    (on-result (variables (variable 1 1 37 Top ∷ []) (Float ∷ []) (0 ∷ [])) (x_at 21) j ++ [])
-
-falling_is : (names : List (List ℕ)) → main_form names falling_of ≡ falling_form
-falling_is names =
-    by_counts names
-    ∙ ap (λ p. form_of p [] (result_places (variables (variable 1 1 37 Top ∷ []) (Float ∷ []) (0 ∷ [])) falling_main.results)) (by_places names)
-    ∙ by_walks names
-
-falling_fits : Fits (main_size falling_of)
-unfolding main_size plus a_block
-falling_fits = subst (λ s. Fits (plus a_block s)) (sym (falling_size (found []))) (record { places = omega arith; occs = omega arith; sites = omega arith; blocks = omega arith; calls = omega arith })
+falling_fits : Fits falling_size
+falling_fits = record { places = omega arith; occs = omega arith; sites = omega arith; blocks = omega arith; calls = omega arith }
 
 pub falling_expands : FallingExpands
-falling_expands = record { main = falling_of; is_main = refl; fits = falling_fits; is = sym (falling_is falling.names) }
+falling_expands =
+    alone_flat falling.names falling_main falling_infos (Float ∷ []) falling_known falling_form refl falling_size falling_size_is falling_fits (0 ∷ []) (0 ∷ []) falling_own falling_outs falling_is
+
+-- ---- a call
+
+abbrev ramp_infos : List VarInfo
+ramp_infos = variable 1 1 17 Param ∷ variable 2 1 38 Top ∷ []
+
+abbrev calling_infos : List VarInfo
+calling_infos = variable 4 2 33 Top ∷ []
+
+ramp_known : KnownDecl ramp
+ramp_known = record {
+  outlines = search known_outlines depth 40 fits 3000;
+  places = search known_places depth 20 fits 2000;
+  typed_results = λ e. search known_types depth 40 fits 3000;
+  typed_eqs = λ e. search known_types depth 40 fits 3000;
+  results = λ base names i. search known_walks depth 40 fits 3000;
+  eqs = λ base names i. search known_walks depth 40 fits 3000;
+}
+
+calling_known : KnownDecl calling_main
+calling_known = record {
+  outlines = search known_outlines depth 40 fits 3000;
+  places = search known_places depth 20 fits 2000;
+  typed_results = λ e. search known_types depth 40 fits 3000;
+  typed_eqs = λ e. search known_types depth 40 fits 3000;
+  results = λ base names i. search known_walks depth 40 fits 3000;
+  eqs = λ base names i. search known_walks depth 40 fits 3000;
+}
+
+abbrev calling_size : Size
+calling_size = record { places = 3; occs = 6; sites = 0; blocks = 1; calls = 1 }
+
+calling_size_is : main_size (main_behind calling.names ramp ramp_infos (Float ∷ Float ∷ []) ramp_known calling_main calling_infos (Float ∷ []) calling_known) ≡ calling_size
+unfolding main_size decl_size plus none a_place an_occ an_up a_block in_call
+calling_size_is = simp size_steps
+
+ramp_own : (n : ℕ) → (decl_numbering ramp_infos (found []) ramp n).own ≡ n ∷ (n + 1) ∷ []
+unfolding decl_numbering plus none a_place an_occ an_up a_block
+ramp_own n = simp (numbering_steps, size_steps, add-zero)
+
+calling_own : (decl_numbering calling_infos (sizes_of (main_behind calling.names ramp ramp_infos (Float ∷ Float ∷ []) ramp_known calling_main calling_infos (Float ∷ []) calling_known)) calling_main 0).own ≡ 0 ∷ []
+unfolding decl_numbering decl_size plus none a_place an_occ an_up a_block in_call
+calling_own = simp (numbering_steps, size_steps)
+
+calling_outs : result_places (variables_at calling_infos (Float ∷ []) (0 ∷ [])) calling_main.results ≡ 0 ∷ []
+calling_outs = simp on-result
+
+calling_is : form_by 6 calling.names (main_behind calling.names ramp ramp_infos (Float ∷ Float ∷ []) ramp_known calling_main calling_infos (Float ∷ []) calling_known)
+    (first_called calling.names ramp ramp_infos (Float ∷ Float ∷ []) ramp_known calling_main calling_infos (Float ∷ []) calling_known 6 (λ n. n ∷ (n + 1) ∷ []))
+    (0 ∷ []) (0 ∷ []) calling_known ≡ calling_form
+unfolding ramp_known calling_known joined nothing some_places some_definers one_block one_place one_occ one_hidden one_site one_choice one_automaton after past_block past_occ past_hidden past_site past_choice past_automaton
+calling_is = refl
+
+calling_fits : Fits calling_size
+calling_fits = record { places = omega arith; occs = omega arith; sites = omega arith; blocks = omega arith; calls = omega arith }
+
+pub calling_expands : CallingExpands
+calling_expands =
+    two_flat calling.names ramp ramp_infos (Float ∷ Float ∷ []) ramp_known calling_main calling_infos (Float ∷ []) calling_known calling_form refl refl
+    calling_size calling_size_is calling_fits (λ n. n ∷ (n + 1) ∷ []) ramp_own (0 ∷ []) (0 ∷ []) calling_own calling_outs calling_is

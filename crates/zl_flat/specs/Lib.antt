@@ -15,4 +15,5 @@ pub mod Flat
 pub mod Worked
 pub mod ThinTree
 pub mod Checked
+pub mod WorkedTexts
 pub mod Counted

@@ -124,6 +124,3 @@ CallingExpands =
     ((variable 1 1 17 Param ∷ variable 2 1 38 Top ∷ []) ∷ (variable 4 2 33 Top ∷ []) ∷ [])
     ((Float ∷ Float ∷ []) ∷ (Float ∷ []) ∷ [])
     calling_form
-
-abbrev pub WorkedExpand : Type 0
-WorkedExpand = FallingExpands × CallingExpands
