@@ -2,7 +2,7 @@
 use Rattle.std.proofs.Common.{◌≡◌, ℕ, zero, suc, ◌+◌, ◌<◌, ◌≤◌, Bool, true, false, cond, nat_eq, List, [], ◌∷◌, ◌++◌, map, length, take, Option, Some, None, slice_get, refl, sym, ap, ◌∙◌, arith}
 use Rattle.std.specs.List.{position}
 use Rattle.std.specs.Option.{option_map}
-use Rattle.std.proofs.lemmas.List.{take_all, length-append, take-take, take-map, take_at}
+use Rattle.std.proofs.lemmas.List.{take_all, length-append, append-nil, append_assoc, map-append, take-take, take-map, take_at}
 use Rattle.zl_value.specs.declared.value.Ty.{Ty}
 use Rattle.zl_ast.specs.declared.scope.VarInfo.{VarInfo}
 use Rattle.zl_ast.specs.declared.program.Decl.{Decl}
@@ -12,7 +12,7 @@ use Rattle.zl_flat.specs.Sizes.{decl_size}
 use Rattle.zl_flat.specs.ScopedDecls.{Scoped, scoped, Named, found, with_name, with_sizes}
 use Rattle.zl_flat.specs.Instances.{Callee}
 use Rattle.zl_flat.specs.Expansion.{decl_copy, with_callees}
-use Rattle.zl_expand.proofs.KnownLemmas.{first_place, place, position-place, both-ways, names-scoped}
+use Rattle.zl_expand.proofs.KnownLemmas.{first_place, place, position-place, both-ways, names-scoped, found-place, taken, cut_at, place-take}
 
 -- ---- the sizes of fewer declarations
 
@@ -129,3 +129,20 @@ module _ (base : ℕ) (names : List (List ℕ)) where
   pub callee-there : (ds : List Decl) (vss : List (List VarInfo)) (tss : List (List Ty)) (n k id : ℕ) (d : Scoped) → length vss ≡ length ds → length tss ≡ length ds → k < n → slice_get (scoped ds vss tss) k ≡ Some d → Some k ≡ position (nat_eq id) (map (λ d. d.name.id) ds) → found (with_callees base names [] [] (take n (scoped ds vss tss))) id ≡ Some (decl_copy base names (found (with_callees base names [] [] (take k (scoped ds vss tss)))) (found (with_sizes [] (take k (scoped ds vss tss)))) d)
   callee-there ds vss tss n k id d p q h there e =
       callee-from (scoped ds vss tss) n k id [] [] d h there (ap (λ ys. place id ys) (names-scoped ds vss tss p q) ∙ sym (e ∙ position-place id (map (λ d. d.name.id) ds))) refl
+
+  names-called : (callees : List (Named Callee)) (sizes : List (Named Size)) (ds : List Scoped) → map (λ x. x.name) (with_callees base names callees sizes ds) ≡ map (λ x. x.name) callees ++ ids ds
+  names-called callees sizes [] = sym (append-nil _)
+  names-called callees sizes (d ∷ ds) =
+      names-called (more_callees callees sizes d) (more_sizes sizes d) ds
+      ∙ ap (λ xs. xs ++ ids ds) (map-append (λ x. x.name) callees _)
+      ∙ append_assoc (map (λ x. x.name) callees) (d.decl.name.id ∷ []) (ids ds)
+
+  -- none of the first declarations has the name
+  pub callee-missing : (ds : List Decl) (vss : List (List VarInfo)) (tss : List (List Ty)) (n id : ℕ) → length vss ≡ length ds → length tss ≡ length ds → cut_at n (position (nat_eq id) (map (λ d. d.name.id) ds)) ≡ None → found (with_callees base names [] [] (take n (scoped ds vss tss))) id ≡ None
+  unfolding taken
+  callee-missing ds vss tss n id p q e =
+      let ss = scoped ds vss tss in
+      let known = with_callees base names [] [] (take n ss) in
+      found-place known id
+      ∙ ap (λ ys. taken (λ x. x.what) known (place id ys)) (names-called [] [] (take n ss) ∙ sym (take-map (λ d. d.decl.name.id) n ss) ∙ ap (λ ys. take n ys) (names-scoped ds vss tss p q))
+      ∙ ap (λ o. taken (λ x. x.what) known o) (place-take id n (map (λ d. d.name.id) ds) ∙ ap (λ o. cut_at n o) (sym (position-place id (map (λ d. d.name.id) ds))) ∙ e)

@@ -1,19 +1,18 @@
 -- What a call makes: the copy of the called body.
-use Rattle.std.proofs.Common.{◌≡◌, ℕ, zero, suc, ◌<◌, List, [], ◌∷◌, map, length, take, Option, Some, slice_get, refl, sym, ap, ◌∙◌, arith}
+use Rattle.std.proofs.Common.{◌≡◌, ℕ, ◌+◌, ◌^◌, ◌<◌, subst, arith, List, [], map, length, take, Option, Some, None, slice_get, refl, sym, ap, ◌∙◌}
+use Rattle.std.proofs.lemmas.List.{length-map}
 use Rattle.std.specs.List.{position}
 use Rattle.std.specs.Prelude.{nat_eq, OnOk, IfOk}
 use Rattle.std.specs.declared.result.Result.{Result}
 use Rattle.std.specs.Option.{option_map_or}
-use Rattle.zl_value.specs.declared.value.Ty.{Ty}
 use Rattle.zl_ast.specs.declared.program.Decl.{Decl}
 use Rattle.zl_ast.specs.declared.program.Param.{Param}
-use Rattle.zl_ast.specs.declared.scope.VarInfo.{VarInfo}
 use Rattle.zl_flat.specs.declared.here.Here.{Here}
 use Rattle.zl_flat.specs.declared.here.Root.{Root}
 use Rattle.zl_flat.specs.declared.given.Given.{Given}
 use Rattle.zl_expand.specs.declared.instance.Instance.{Instance as TheInstance}
 use Rattle.zl_flat.specs.Parts.{Parts, Counters, joined, some_places, some_definers, after}
-use Rattle.zl_flat.specs.ScopedDecls.{Scoped, scoped, found, with_sizes}
+use Rattle.zl_flat.specs.ScopedDecls.{Scoped, found, with_sizes}
 use Rattle.zl_flat.specs.Variables.{variables}
 use Rattle.zl_flat.specs.Numbering.{decl_numbering}
 use Rattle.zl_flat.specs.Instances.{Callee, Copy, Instance, callee}
@@ -22,9 +21,13 @@ use Rattle.zl_flat.specs.Equations.{eqns_walk}
 use Rattle.zl_flat.specs.Expansion.{decl_copy, with_callees, body_copy, instance, argument_definers, param_place}
 use Rattle.zl_expand.specs.KeptDecls.{scoped_in, infos_in, types_in, known_in}
 use Rattle.zl_expand.specs.Kept.{counters, instance_in, names_in, inside_in}
+use Rattle.zl_flat.specs.Counted.{count}
+use Rattle.zl_expand.specs.Room.{HasRoom}
+use Rattle.zl_expand.proofs.RoomLaws.{count-joined, count-places, fewer-places, room-second}
 use Rattle.zl_expand.proofs.LimitLemmas.{HasScoped}
-use Rattle.zl_expand.proofs.PartsLaws.{joined-assoc, counters-joined}
-use Rattle.zl_expand.proofs.CopyLemmas.{callee-there}
+use Rattle.zl_expand.proofs.PartsLaws.{joined-assoc, joined-nothing, counters-joined}
+use Rattle.zl_expand.proofs.KnownLemmas.{cut_at}
+use Rattle.zl_expand.proofs.CopyLemmas.{callee-there, callee-missing}
 use Rattle.zl_expand.proofs.StateLemmas.{on-ok, if-ok}
 
 -- ---- the parts of a copy, one behind the other
@@ -59,19 +62,6 @@ module _ (base : ℕ) (names : List (List ℕ)) (i : Instance) (d : Decl) (defin
 -- the instance whose parameters were made
 abbrev pub instance-of : (j : TheInstance) (here : Here) (ps : List Param) (out o1 : Parts) → o1 ≡ joined out (some_places (map (param_place (instance_in j) here) ps)) → TheInstance
 instance-of j here ps out o1 e = j
-
-same-decl : (d x : Decl) → Some d ≡ Some x → d ≡ x
-same-decl d x e = cc
-
--- each declaration has its variables
-pub scoped-at : (ds : List Decl) (vss : List (List VarInfo)) (tss : List (List Ty)) (n : ℕ) (x : Decl) → length vss ≡ length ds → length tss ≡ length ds → slice_get ds n ≡ Some x → HasScoped (scoped ds vss tss) n x
-scoped-at [] vss tss n x p q e = cc
-scoped-at (d ∷ ds) [] tss n x p q e = absurd (omega arith)
-scoped-at (d ∷ ds) (vs ∷ vss) [] n x p q e = absurd (omega arith)
-scoped-at (d ∷ ds) (vs ∷ vss) (ts ∷ tss) zero x p q e = record { one = record { decl = d; infos = vs; types = ts }; there = refl; is = same-decl d x e }
-scoped-at (d ∷ ds) (vs ∷ vss) (ts ∷ tss) (suc n) x p q e =
-    let inner = scoped-at ds vss tss n x (omega arith) (omega arith) e in
-    record { one = inner.one; there = inner.there; is = inner.is }
 
 module _ (i j : TheInstance) (id number first : ℕ) (decl : Decl) (here : Here) (roots : List Root) (out : Parts) where
   -- a copy of the declaration with this number, which is the first of this name
@@ -125,6 +115,23 @@ module _ (i j : TheInstance) (id number first : ℕ) (decl : Decl) (here : Here)
         ap (λ o. callee o here roots (counters out)) (callee-there i.base (names_in i) i.known.now.declared.now.decls.now i.known.now.declared.now.scopes.now i.known.now.declared.now.types.now i.known.now.number number id one w.all_scoped w.all_typed w.before w.there.there w.named)
         ∙ (λ t. body_copy i.base (names_in i) (sym same-instance t) (w.there.is t) (argument_definers here (counters out).places (w.there.is t).params roots) here (counters out))
 
+    -- the parameters are among what the copy makes
+    pub params-room : (d : ℕ) → HasRoom d i.base out (callee ((instance_in i).callees id) here roots (counters out)).parts → first + length decl.params < 2 ^ 32
+    params-room d h =
+        let k = instance_in j in
+        let places = map (param_place k here) decl.params in
+        let definers = argument_definers here (counters out).places decl.params roots in
+        let ps = params i.base (names_in i) k decl definers here in
+        let rest = inside i.base (names_in i) k decl definers here (after (counters out) ps) in
+        let e = ap (λ c. count c.parts) called-copy in
+        let f = count-joined ps rest.parts in
+        let g = count-joined (some_places places) (some_definers definers) in
+        let l = count-places places in
+        let m = length-map decl.params (param_place k here) in
+        let n = fewer-places out in
+        let o = w.first_is in
+        omega (arith, e, f, g, l, m, n, o, h)
+
     -- the copy is made in order
     module _ (o1 o2 o3 : Parts) (e : o1 ≡ joined out (some_places (map (param_place (instance_in j) here) decl.params))) (f : o2 ≡ joined o1 (some_definers (argument_definers here first decl.params roots))) where
       same-copy : body_copy j.base (names_in j) (instance_in j) decl (argument_definers here first decl.params roots) here (counters out) ≡ callee ((instance_in i).callees id) here roots (counters out)
@@ -138,8 +145,37 @@ module _ (i j : TheInstance) (id number first : ℕ) (decl : Decl) (here : Here)
       pub called-results : (inside_in j decl here (counters o2)).results ≡ (callee ((instance_in i).callees id) here roots (counters out)).results
       called-results = copy-results j.base (names_in j) (instance_in j) decl (argument_definers here first decl.params roots) here out o1 o2 e f ∙ ap (λ c. c.results) same-copy
 
+      -- what stands in the copy has room
+      pub inside-room : (d : ℕ) → HasRoom d i.base out (callee ((instance_in i).callees id) here roots (counters out)).parts → HasRoom d j.base o2 (inside_in j decl here (counters o2)).parts
+      inside-room d h =
+          let definers = argument_definers here first decl.params roots in
+          let ps = params j.base (names_in j) (instance_in j) decl definers here in
+          let k : HasRoom d i.base out (joined ps (inside_in j decl here (after (counters out) ps)).parts) = subst (HasRoom d i.base out) (sym (ap (λ c. c.parts) same-copy)) h in
+          let r = room-second d i.base out o2 ps (inside_in j decl here (after (counters out) ps)).parts (with-params j.base (names_in j) (instance_in j) decl definers here out o1 o2 e f) k in
+          subst (λ b. HasRoom d b o2 (inside_in j decl here (counters o2)).parts) (sym w.same_base)
+          (subst (λ s. HasRoom d i.base o2 (inside_in j decl here s).parts) (sym (counted j.base (names_in j) (instance_in j) decl definers here out o1 o2 e f)) r)
+
       pub made-ok : {V E : Type 0} (r : Result V E) → OnOk r (o3 ≡ joined o2 (inside_in j decl here (counters o2)).parts) → OnOk r (o3 ≡ joined out (callee ((instance_in i).callees id) here roots (counters out)).parts)
       made-ok r h = on-ok r _ _ called-parts h
 
       pub results-ok : {V E : Type 0} (items : V → List Root) (r : Result V E) → IfOk r (λ v. items v ≡ (inside_in j decl here (counters o2)).results) → IfOk r (λ v. items v ≡ (callee ((instance_in i).callees id) here roots (counters out)).results)
       results-ok items r h = if-ok r (λ v. items v ≡ (inside_in j decl here (counters o2)).results) (λ v. items v ≡ (callee ((instance_in i).callees id) here roots (counters out)).results) (λ v g. g ∙ called-results) h
+
+-- ---- what isn't declared before has no copy
+
+module _ (i : TheInstance) (id : ℕ) where
+  pub record IsMissing : Type 0 where
+    pub all_scoped : length i.known.now.declared.now.scopes.now ≡ length i.known.now.declared.now.decls.now
+    pub all_typed : length i.known.now.declared.now.types.now ≡ length i.known.now.declared.now.decls.now
+    pub before_none : cut_at i.known.now.number (position (nat_eq id) (map (λ d. d.name.id) i.known.now.declared.now.decls.now)) ≡ None
+
+  no-callee : IsMissing → (instance_in i).callees id ≡ None
+  unfolding instance_in
+  no-callee w = callee-missing i.base (names_in i) i.known.now.declared.now.decls.now i.known.now.declared.now.scopes.now i.known.now.declared.now.types.now i.known.now.number id w.all_scoped w.all_typed w.before_none
+
+  module _ (here : Here) (roots : List Root) (out : Parts) where
+    pub missing-parts : IsMissing → out ≡ joined out (callee ((instance_in i).callees id) here roots (counters out)).parts
+    missing-parts w = sym (ap (λ o. joined out (callee o here roots (counters out)).parts) (no-callee w) ∙ joined-nothing out)
+
+    pub missing-results : IsMissing → [] ≡ (callee ((instance_in i).callees id) here roots (counters out)).results
+    missing-results w = sym (ap (λ o. (callee o here roots (counters out)).results) (no-callee w))

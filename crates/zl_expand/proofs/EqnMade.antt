@@ -1,22 +1,18 @@
--- What equations make, step by step: a `der`, and names that are defined by a call.
-use Rattle.std.proofs.Common.{◌≡◌, ℕ, List, [], ◌∷◌, map, length, Option, None, refl, sym, ap, ◌∙◌}
+-- What equations make, step by step: a `der`, and names that are defined by results.
+use Rattle.std.proofs.Common.{◌≡◌, ℕ, List, [], ◌∷◌, length, Option, refl, sym, ap, ◌∙◌}
 use Rattle.std.specs.Prelude.{OnOk}
 use Rattle.std.specs.declared.result.Result.{Result}
 use Rattle.zl_ast.specs.declared.name.Name.{Name}
-use Rattle.zl_ast.specs.declared.expr.Expr.{Expr}
-use Rattle.zl_ast.specs.declared.expr.Expr.TheVariants as tree
 use Rattle.zl_meaning.specs.declared.place.DerArm.{DerArm}
 use Rattle.zl_flat.specs.declared.here.Here.{Here}
 use Rattle.zl_flat.specs.declared.here.Root.{Root}
 use Rattle.zl_flat.specs.Parts.{Parts, Counters, joined, some_definers, after}
 use Rattle.zl_flat.specs.Variables.{variable_of}
-use Rattle.zl_flat.specs.Operators.{built_in_op}
 use Rattle.zl_flat.specs.Instances.{Instance, in_body}
-use Rattle.zl_flat.specs.Expressions.{Walk, Walked, call, call_or_built_in, expr_walk}
+use Rattle.zl_flat.specs.Expressions.{Walk, Walked}
 use Rattle.zl_flat.specs.Equations.{ResetWalk, given, derivative, start_definers, place_number, plain_definers, right_roots, name_made, names_made, start_made, resets_made, plain, der}
 use Rattle.zl_expand.specs.Kept.{counters}
 use Rattle.zl_expand.proofs.PartsLaws.{joined-assoc, counters-joined}
-use Rattle.zl_flat.proofs.ExprSteps.{walk-call}
 use Rattle.zl_expand.proofs.StateLemmas.{on-ok}
 
 -- the numbers behind what is made next
@@ -106,13 +102,7 @@ module _ (base : ℕ) (names : List (List ℕ)) (i : Instance) (here : Here) whe
       pub der-made : {T E : Type 0} (r : Result T E) → OnOk r (o5 ≡ joined o4 (some_definers (given place (derivative here.block occ arms) ∷ start_definers place here value))) → OnOk r (o5 ≡ joined out (der base names i x slope start resets here (counters out)))
       der-made r h = on-ok r _ _ made-der h
 
-  -- ---- names that are defined by a call
-
-  is-call : (right : Expr) (f : Name) (args : List Expr) (s : Counters) → right ≡ tree.Call f args → built_in_op names f.id ≡ None → expr_walk base names i right here s ≡ call base names i f (map (expr_walk base names i) args) here s
-  is-call right f args s e n =
-      ap (λ x. expr_walk base names i x here s) e
-      ∙ walk-call base names i here s f args
-      ∙ ap (λ o. call_or_built_in base names i o f (map (expr_walk base names i) args) here s) n
+  -- ---- names that are defined by results
 
   several : (left : List Name) (e : Walked) → (length left ≡ 1 → ⊥) → right_roots left e ≡ e.results
   several [] e h = refl
@@ -132,16 +122,13 @@ module _ (base : ℕ) (names : List (List ℕ)) (i : Instance) (here : Here) whe
       ∙ ap (λ o. joined o (joined e.parts (some_definers (plain_definers i here left (right_roots left e))))) a
       ∙ joined-assoc out first (joined e.parts (some_definers (plain_definers i here left (right_roots left e))))
 
-  module _ (left : List Name) (right : Expr) (f : Name) (args : List Expr) (out o1 o2 o3 : Parts) (results : List Root) where
-    pub record IsDefinedByCall : Type 0 where
+  module _ (left : List Name) (right : Walk) (out o1 o2 o3 : Parts) (results : List Root) where
+    pub record AreResults : Type 0 where
       pub named : o1 ≡ joined out (names_made base names i left (in_body i here) (counters out))
       pub many : length left ≡ 1 → ⊥
-      pub right_is : right ≡ tree.Call f args
-      pub not_built_in : built_in_op names f.id ≡ None
-      pub called : o2 ≡ joined o1 (call base names i f (map (expr_walk base names i) args) here (counters o1)).parts
-      pub results_are : results ≡ (call base names i f (map (expr_walk base names i) args) here (counters o1)).results
+      pub made : o2 ≡ joined o1 (right here (counters o1)).parts
+      pub results_are : results ≡ (right here (counters o1)).results
 
-    pub call-defines : {T E : Type 0} (r : Result T E) → IsDefinedByCall → OnOk r (o3 ≡ joined o2 (some_definers (plain_definers i here left results))) → OnOk r (o3 ≡ joined out (plain base names i left (expr_walk base names i right) here (counters out)))
-    call-defines r w h =
-        let same = is-call right f args (counters o1) w.right_is w.not_built_in in
-        on-ok r _ _ (plain-in-order out o1 o2 o3 left (expr_walk base names i right) results w.named (w.called ∙ ap (λ e. joined o1 e.parts) (sym same)) (w.results_are ∙ ap (λ e. e.results) (sym same) ∙ sym (several left (expr_walk base names i right here (counters o1)) w.many))) h
+    pub results-define : {T E : Type 0} (r : Result T E) → AreResults → OnOk r (o3 ≡ joined o2 (some_definers (plain_definers i here left results))) → OnOk r (o3 ≡ joined out (plain base names i left right here (counters out)))
+    results-define r w h =
+        on-ok r _ _ (plain-in-order out o1 o2 o3 left right results w.named w.made (w.results_are ∙ sym (several left (right here (counters o1)) w.many))) h

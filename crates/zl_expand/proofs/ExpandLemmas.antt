@@ -1,8 +1,8 @@
 -- What `main` expands to, as it is made step by step.
-use Rattle.std.proofs.Common.{◌≡◌, ℕ, suc, ◌+◌, ◌<◌, ◌≤◌, Bool, List, [], ◌∷◌, ◌++◌, map, length, drop, take, Option, Some, None, slice_get, Result, Ok, Err, IfOk, refl, sym, ap, ◌∙◌, subst, arith}
+use Rattle.std.proofs.Common.{◌≡◌, ℕ, suc, ◌+◌, ◌^◌, ◌<◌, ◌≤◌, Bool, List, [], ◌∷◌, ◌++◌, map, length, drop, take, Option, Some, None, slice_get, Result, Ok, Err, IfOk, refl, sym, ap, ◌∙◌, subst, arith}
 use Rattle.std.specs.Option.{option_map_or}
 use Rattle.std.proofs.lemmas.Grind.{common_steps}
-use Rattle.std.proofs.lemmas.List.{append_assoc, append-nil, drop_more}
+use Rattle.std.proofs.lemmas.List.{append_assoc, append-nil, drop_more, length-map}
 use Rattle.zl_value.specs.Lists.{listed}
 use Rattle.zl_ast.specs.NamesRules.{is_hybrid}
 use Rattle.zl_ast.specs.declared.program.Decl.{Decl}
@@ -25,12 +25,19 @@ use Rattle.zl_flat.specs.Parts.{Parts, Counters, nothing, joined, one_block, som
 use Rattle.zl_flat.specs.Variables.{variables}
 use Rattle.zl_flat.specs.Numbering.{decl_numbering}
 use Rattle.zl_flat.specs.Instances.{Instance, Callee}
-use Rattle.zl_flat.specs.Equations.{given}
-use Rattle.zl_flat.specs.Expansion.{Scoped, found, with_sizes, with_callees, MainOf, main_size, input_definers, param_place, body_copy, instance, variables_from, result_places, form_of, main_parts, main_form}
+use Rattle.zl_flat.specs.Equations.{given, eqns_walk}
+use Rattle.zl_flat.specs.Expressions.{exprs_walk}
+use Rattle.zl_flat.specs.Counted.{count}
+use Rattle.zl_flat.specs.Checked.{IsChecked}
+use Rattle.zl_ast.specs.Scopes.{scopes}
+use Rattle.zl_flat.proofs.CheckedPrograms.{count-is-small}
+use Rattle.zl_expand.specs.Room.{HasRoom}
+use Rattle.zl_expand.proofs.RoomLaws.{count-joined, count-places, count-nothing}
+use Rattle.zl_flat.specs.Expansion.{Scoped, found, with_sizes, with_callees, MainOf, main_size, sizes_of, program_main, main_here, main_block, input_definers, param_place, body_copy, instance, variables_from, result_places, form_of, main_parts, main_form}
 use Rattle.zl_expand.specs.KeptDecls.{scoped_in, infos_in, types_in, known_in, program_in, IsMeasured}
 use Rattle.zl_expand.specs.Kept.{counters, instance_in, names_in, inside_in}
 use Rattle.zl_expand.specs.declared.tables.Tables.{Tables}
-use Rattle.zl_expand.specs.Tables.{form_in, scoped_as, main_in}
+use Rattle.zl_expand.specs.Tables.{form_in, scoped_as, main_in, parts_in}
 use Rattle.zl_expand.proofs.PartsLaws.{parts_laws, more-definers, nothing-joined, joined-assoc, counters-joined}
 
 -- ---- inputs
@@ -100,6 +107,36 @@ main-made i d hybrid o1 o2 o3 o4 b o h h1 h2 h3 h4 =
     in-order _ _ _ (λ s. (inside_in i d (record { block = 0; hybrid = hybrid; call = None }) s).parts) o1 o2 o3 o4 h1 h2 h3 h4
     ∙ (λ j. main_walked i.base (names_in i) (main-instance i d b o j) d (h j))
 
+-- the parameters are among what `main` makes
+main-params : (base : ℕ) (names : List (List ℕ)) (callees : ℕ → Option Callee) (sizes : ℕ → Option Size) (d : Scoped) → length d.decl.params ≤ count (main_parts base names callees sizes d)
+unfolding main_parts
+main-params base names callees sizes d =
+    let i = instance base names callees sizes d 0 0 in
+    let here = main_here base names d.decl in
+    let places = map (param_place i here) d.decl.params in
+    let definers = input_definers 0 d.decl.params in
+    let b = one_block (main_block base names d.decl) in
+    let ps = joined (some_places places) (some_definers definers) in
+    let copy = body_copy base names i d.decl definers here (past_block start) in
+    let results = exprs_walk base names i d.decl.results here (after (past_block start) ps) in
+    let eqs = eqns_walk base names i d.decl.eqs here (after (after (past_block start) ps) results.parts) in
+    let e = count-joined b copy.parts in
+    let f = count-joined ps (joined results.parts eqs) in
+    let g = count-joined (some_places places) (some_definers definers) in
+    let l = count-places places in
+    let m = length-map d.decl.params (param_place i here) in
+    omega (arith, e, f, g, l, m)
+
+pub params-in : (k : Known) (d : Decl) (base : ℕ) → length d.params ≤ count (parts_in k d base)
+params-in k d base = main-params base k.declared.now.names.now (callees_in k base) (known_in k) (scoped_as k d)
+
+-- what is left of the walk of `main` has room
+pub rest-room : (d base : ℕ) (o rest whole : Parts) → joined o rest ≡ whole → HasRoom d base nothing whole → HasRoom d base o rest
+rest-room d base o rest whole same h =
+    let e = sym (count-joined o rest) ∙ ap count same in
+    let f = count-nothing in
+    omega (arith, e, f, h)
+
 pub main-formed : (i : TheInstance) (d : Decl) (out : Parts) (ins outs : List ℕ) → i.block ≡ 0 → i.own.now ≡ (decl_numbering (infos_in i.known.now) (known_in i.known.now) d 0).own → out ≡ main_parts i.base (names_in i) (callees_in i.known.now i.base) (known_in i.known.now) (scoped_as i.known.now d) → ins ≡ listed (length d.params) 0 (λ n. n) → outs ≡ result_places (instance_in i).variables d.results → form_of out ins outs ≡ main_in i.known.now d i.base
 main-formed i d out ins outs b o made h g =
     (λ j. form_of (made j) (h j) ((g ∙ ap (λ k. result_places k.variables d.results) (main-instance i d b o)) j))
@@ -116,6 +153,13 @@ form_at base names before m =
     (main_parts base names (found (with_callees base names [] [] before)) (found (with_sizes [] before)) m)
     (listed (length m.decl.params) 0 (λ n. n))
     (result_places (variables_from (found (with_sizes [] before)) m 0) m.decl.results)
+
+-- what is made for `main` is what the definitions say
+pub same-parts : (k : Known) (decl : Decl) (base : ℕ) (of : MainOf) → of.before ≡ take k.number (scoped_in k.declared.now) → slice_get (scoped_in k.declared.now) k.number ≡ Some of.main → decl ≡ of.main.decl → base ≡ (main_size of).occs →
+    parts_in k decl base ≡ main_parts (main_size of).occs k.declared.now.names.now (found (with_callees (main_size of).occs k.declared.now.names.now [] [] of.before)) (sizes_of of) of.main
+same-parts k decl base of before there same count = λ j.
+    main_parts (count j) k.declared.now.names.now (found (with_callees (count j) k.declared.now.names.now [] [] (sym before j))) (found (with_sizes [] (sym before j)))
+    (record { decl = same j; infos = option_map_or (λ d. d.infos) (there j) []; types = option_map_or (λ d. d.types) (there j) [] })
 
 pub flat-main : (k : Known) (decl : Decl) (base : ℕ) (of : MainOf) → of.before ≡ take k.number (scoped_in k.declared.now) → slice_get (scoped_in k.declared.now) k.number ≡ Some of.main → decl ≡ of.main.decl → base ≡ (main_size of).occs → main_in k decl base ≡ main_form k.declared.now.names.now of
 unfolding main_form
@@ -154,5 +198,27 @@ is-flat k m decl base h n e b f =
 pub of-tables : {E : Type 0} (r : Result Tables E) (f : FlatForm) (P : FlatForm → Type 0) → P f → IfOk r (λ t. form_in t ≡ f) → IfOk r (λ t. P (form_in t))
 of-tables (Ok t) f P p e = subst P (sym e) p
 of-tables (Err x) f P p e = tt
+
+-- there is room for `main` of a program that keeps the rules and the limits
+pub main-room : (k : Known) (m : Measured) (decl : Decl) (base : ℕ) (h : IsMeasured k.declared.now m) → k.number ≡ m.main → decl ≡ h.of.main.decl → base ≡ m.size.occs → FitsIn (program_in k.declared.now) k.declared.now.scopes.now k.declared.now.types.now →
+    k.declared.now.scopes.now ≡ scopes (program_in k.declared.now) → IsChecked (program_in k.declared.now) k.declared.now.types.now → HasRoom 2 base nothing (parts_in k decl base)
+main-room k m decl base h n e b f scoped checked =
+    let d = k.declared.now in
+    let ss = scoped_in d in
+    let fits = fits-measured d m h f in
+    let exact = b ∙ occs-exact m.size (main_size h.of) h.counted fits in
+    let is_main : program_main (program_in d) (scopes (program_in d)) d.types.now ≡ Some h.of = ap (λ vs. program_main (program_in d) vs d.types.now) (sym scoped) ∙ h.is_main in
+    let small = count-is-small (program_in d) d.types.now checked h.of is_main fits in
+    let same = ap count (same-parts k decl base h.of (h.is_behind ∙ ap (λ i. take i ss) (sym n)) (ap (λ i. slice_get ss i) n ∙ h.is_there) e exact) in
+    let none = count-nothing in
+    let few = fits.occs in
+    omega (arith, small, same, none, few, exact)
+
+pub small-occs : (d : Declared) (m : Measured) → IsMeasured d m → FitsIn (program_in d) d.scopes.now d.types.now → m.size.occs < 2 ^ 32
+small-occs d m h f =
+    let fits = fits-measured d m h f in
+    let e = occs-exact m.size (main_size h.of) h.counted fits in
+    let few = fits.occs in
+    omega (arith, e, few)
 
 pub ruleset expanding = (common_steps, parts_laws, append-nil, append_assoc)

@@ -129,6 +129,16 @@ none-cut : (n : ℕ) → None ≡ cut_at n None
 unfolding cut_at
 none-cut n = refl
 
+-- no number is none of the first
+pub uncut-none : (n : ℕ) (q : Option ℕ) → None ≡ q → cut_at n q ≡ None
+unfolding cut_at
+uncut-none n q e = ap (λ o. cut_at n o) (sym e)
+
+-- nor is a number behind them
+pub uncut-later : (n k : ℕ) (q : Option ℕ) → Some k ≡ q → n ≤ k → cut_at n q ≡ None
+unfolding cut_at
+uncut-later n k q e h = ap (λ o. cut_at n o) (sym e) ∙ cut-past n k h
+
 pub place-take : (id n : ℕ) (ys : List ℕ) → place id (take n ys) ≡ cut_at n (place id ys)
 unfolding first_place
 place-take id zero ys = cut-none (place id ys)

@@ -1,6 +1,6 @@
 -- Where `main` stands, and what its counts say of the limits.
-use Rattle.std.proofs.Common.{◌≡◌, ℕ, zero, suc, ◌+◌, ◌<◌, ◌≤◌, Bool, true, false, cond, List, [], ◌∷◌, ◌++◌, map, length, take, Option, Some, None, slice_get, get_or, drop, refl, sym, ap, ◌∙◌, arith}
-use Rattle.std.specs.List.{position, position_from}
+use Rattle.std.proofs.Common.{◌≡◌, ℕ, zero, suc, ◌+◌, ◌<◌, ◌≤◌, Bool, true, false, ◌||◌, cond, List, [], ◌∷◌, ◌++◌, map, length, take, Option, Some, None, slice_get, get_or, drop, refl, sym, ap, ◌∙◌, arith}
+use Rattle.std.specs.List.{list_any, position, position_from}
 use Rattle.std.specs.Option.{option_map, option_map_or}
 use Rattle.std.proofs.lemmas.Grind.{common_steps}
 use Rattle.std.proofs.lemmas.List.{map-append, length-append, length-map, length-take, take_all, take_more, drop_more, drop_all}
@@ -80,6 +80,20 @@ first-within test (y ∷ ys) n e = within-step (test y) (first_place test ys) n 
 -- the first that passes a test is there
 pub position-within : {A : Type 0} (test : A → Bool) (ys : List A) (n : ℕ) → position test ys ≡ Some n → n < length ys
 position-within test ys n e = first-within test ys n (sym (position-first test ys) ∙ e)
+
+first-none : {A : Type 0} (test : A → Bool) (ys : List A) → first_place test ys ≡ None → list_any test ys ≡ false
+unfolding first_place
+first-none test [] e = refl
+first-none test (y ∷ ys) e = by_test (test y) (first_place test ys) (list_any test ys) e (first-none test ys)
+  where
+    by_test : (b : Bool) (q : Option ℕ) (c : Bool) → cond b (Some 0) (option_map suc q) ≡ None → (q ≡ None → c ≡ false) → (b || c) ≡ false
+    by_test true q c e f = cc
+    by_test false None c e f = f refl
+    by_test false (Some k) c e f = cc
+
+-- one that passes a test is found
+pub position-there : {A : Type 0} (test : A → Bool) (ys : List A) → position test ys ≡ None → list_any test ys ≡ true → ⊥
+position-there test ys e t = let f : true ≡ false = sym t ∙ first-none test ys (sym (position-first test ys) ∙ e) in cc
 
 -- a declaration with this number, with its variables
 pub record HasScoped (ss : List Scoped) (n : ℕ) (decl : Decl) : Type 0 where
@@ -179,4 +193,4 @@ passes-capped s t e (OfSites h) = OfSites (omega (arith, h, ap (λ z. z.sites) e
 passes-capped s t e (OfBlocks h) = OfBlocks (omega (arith, h, ap (λ z. z.blocks) e))
 passes-capped s t e (OfCalls h) = OfCalls (omega (arith, h, ap (λ z. z.calls) e))
 
-pub ruleset limiting = (common_steps, scoped-there, position-within)
+pub ruleset limiting = (common_steps, scoped-there, position-within, position-there)

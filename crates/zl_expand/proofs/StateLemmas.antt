@@ -12,6 +12,9 @@ use Rattle.zl_flat.specs.Parts.{Parts, Counters, joined, one_block, one_hidden, 
 use Rattle.zl_flat.specs.Instances.{Instance, in_block, inner_block}
 use Rattle.zl_flat.specs.Equations.{Making, MoveWalk, moves_made, state_made}
 use Rattle.zl_expand.specs.Kept.{counters, with_occ}
+use Rattle.zl_flat.specs.Counted.{count}
+use Rattle.zl_expand.specs.Room.{HasRoom}
+use Rattle.zl_expand.proofs.RoomLaws.{count-joined, count-block, room-left}
 use Rattle.zl_expand.proofs.PartsLaws.{joined-assoc, counters-joined, after-block, counters-blocks}
 
 -- ---- room for a hidden occurrence
@@ -86,6 +89,28 @@ module _ (base : ℕ) (names : List (List ℕ)) (i : Instance) (here : Here) (bo
     state-parts =
         ap (λ m. joined o3 m.parts) (same-moves _ _ w)
         ∙ all-joined _ _ w (moves_made base names i moves (counters out).blocks ((counters out).blocks + 1) ids here (after both made_inside)).parts
+
+    -- the body has room, and the moves behind it
+    pub block-room : (d b : ℕ) → HasRoom (d + 1) b out (state_made base names i body moves of number ids here (counters out)).parts → HasRoom (d + 2) b o2 (body (in_block inner here.hybrid here) (counters o2))
+    block-room d b h =
+        let mine = moves_made base names i moves guard inner ids here (counters o3) in
+        let whole = state_made base names i body moves of number ids here (counters out) in
+        let inside = body (in_block inner here.hybrid here) (counters o2) in
+        let e = sym (count-joined o3 mine.parts) ∙ ap count state-parts ∙ count-joined out whole.parts in
+        let f = ap count w.inside ∙ count-joined o2 inside in
+        let g = ap count w.with_body ∙ count-joined o1 (one_block (inner_block here (StateOf of number) here.hybrid)) in
+        let k = ap count w.with_guard ∙ count-joined out (one_block (inner_block here (Guard of number) here.hybrid)) in
+        let l = count-block (inner_block here (StateOf of number) here.hybrid) in
+        let m = count-block (inner_block here (Guard of number) here.hybrid) in
+        omega (arith, e, f, g, k, l, m, h)
+
+    pub moves-room : (d b : ℕ) → HasRoom (d + 1) b out (state_made base names i body moves of number ids here (counters out)).parts → HasRoom (d + 1) b o3 (moves_made base names i moves guard inner ids here (counters o3)).parts
+    moves-room d b h =
+        let inside = body (in_block inner here.hybrid here) (counters o2) in
+        let f = ap count w.inside ∙ count-joined o2 inside in
+        let g = ap count w.with_body ∙ count-joined o1 (one_block (inner_block here (StateOf of number) here.hybrid)) in
+        let k = ap count w.with_guard ∙ count-joined out (one_block (inner_block here (Guard of number) here.hybrid)) in
+        room-left (d + 1) b out o3 _ _ state-parts (omega (arith, f, g, k)) h
 
     pub state-moves : (moves_made base names i moves guard inner ids here (counters o3)).moves ≡ (state_made base names i body moves of number ids here (counters out)).moves
     state-moves = ap (λ m. m.moves) (same-moves _ _ w)

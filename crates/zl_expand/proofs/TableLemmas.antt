@@ -1,5 +1,5 @@
 -- The definers of each place, and the places with them.
-use Rattle.std.proofs.Common.{◌≡◌, ℕ, zero, suc, ◌+◌, ◌-◌, ◌<◌, Bool, true, false, cond, nat_eq, List, [], ◌∷◌, ◌++◌, map, length, set, get_or, refl, sym, ap, ◌∙◌, arith}
+use Rattle.std.proofs.Common.{◌≡◌, ℕ, zero, suc, ◌+◌, ◌-◌, ◌<◌, ◌≤◌, Bool, true, false, cond, nat_eq, List, [], ◌∷◌, ◌++◌, map, length, set, get_or, refl, sym, ap, ◌∙◌, arith}
 use Rattle.std.proofs.lemmas.Grind.{common_steps}
 use Rattle.std.proofs.lemmas.Bool.{eqb-true, eq-eqb}
 use Rattle.std.proofs.lemmas.List.{append_assoc, append-nil, map-append}
@@ -65,6 +65,12 @@ pub given-set : {X : Type 0} (f : X → List Definer) (ls : List X) (p : ℕ) (o
 given-set f [] p old new d h e g = absurd (omega arith)
 given-set f (x ∷ xs) zero old new d h e g = ap (λ ds. ds ∷ map f xs) (g ∙ ap (λ o. f o ++ d ∷ []) e)
 given-set f (x ∷ xs) (suc p) old new d h e g = ap (λ dss. f x ∷ dss) (given-set f xs p old new d (omega arith) e g)
+
+-- a place that isn't there takes nothing
+pub given-past : (dss : List (List Definer)) (p : ℕ) (d : Definer) → length dss ≤ p → given_more dss p d ≡ dss
+given-past [] p d h = refl
+given-past (ds ∷ dss) zero d h = absurd (omega arith)
+given-past (ds ∷ dss) (suc p) d h = ap (λ xs. ds ∷ xs) (given-past dss p d (omega arith))
 
 -- a place more without definers
 pub none-more : {X : Type 0} (f : X → List Definer) (ls ms : List X) (x : X) (n k : ℕ) → k < n → ms ≡ ls ++ x ∷ [] → f x ≡ [] → map f ms ++ listed (n - (k + 1)) (k + 1) (λ p. []) ≡ map f ls ++ listed (n - k) k (λ p. [])

@@ -9,6 +9,7 @@ use Rattle.zl_expand.specs.declared.decls.Known.{Known}
 use Rattle.zl_flat.specs.declared.given.Given.{Given}
 use Rattle.zl_expand.specs.declared.tables.Tables.{Tables}
 use Rattle.zl_expand.specs.KeptDecls.{scoped_in, infos_in, types_in, known_in}
+use Rattle.zl_flat.specs.Parts.{Parts}
 use Rattle.zl_flat.specs.Expansion.{Scoped, found, with_callees, variables_from, definers_of, with_definers, result_places, form_of, main_parts}
 
 -- the flat form that the tables are
@@ -44,10 +45,14 @@ with_lists _ _ = []
 abbrev pub scoped_as : Known → Decl → Scoped
 scoped_as k d = record { decl = d; infos = infos_in k; types = types_in k }
 
+-- what the walk of the declaration as `main` makes
+abbrev pub parts_in : Known → Decl → ℕ → Parts
+parts_in k d base = main_parts base k.declared.now.names.now (found (with_callees base k.declared.now.names.now [] [] (take k.number (scoped_in k.declared.now)))) (known_in k) (scoped_as k d)
+
 -- what the declaration expands to as `main`, where the hidden occurrences are numbered from `base` on
 abbrev pub main_in : Known → Decl → ℕ → FlatForm
 main_in k d base =
     form_of
-    (main_parts base k.declared.now.names.now (found (with_callees base k.declared.now.names.now [] [] (take k.number (scoped_in k.declared.now)))) (known_in k) (scoped_as k d))
+    (parts_in k d base)
     (listed (length d.params) 0 (λ n. n))
     (result_places (variables_from (known_in k) (scoped_as k d) 0) d.results)

@@ -1,22 +1,24 @@
 //! The copies of declarations' bodies.
-#![tactic(auto, using(crate::proofs::WalkLaws::walking))]
+#![tactic(auto, using(crate::proofs::WalkLaws::roomy))]
 
-ghost use Rattle.std.specs.Prelude.{◌≡◌, map, OnOk, IfOk};
+ghost use Rattle.std.specs.Prelude.{◌≡◌, ◌+◌, ◌^◌, ◌<◌, length, map, OnOk, IfOk};
 ghost use Rattle.zl_flat.specs.Parts.{joined, some_places, some_definers};
 ghost use Rattle.zl_flat.specs.Instances.{callee};
 ghost use Rattle.zl_flat.specs.Expansion.{param_place, argument_definers};
 ghost use Rattle.zl_expand.specs.Walks.{Walks};
+ghost use Rattle.zl_expand.specs.Room.{HasRoom};
 ghost use Rattle.zl_expand.specs.Kept.{counters, instance_in, inside_in};
 
 use crate::decls::Known;
 use crate::instance::Instance;
 use crate::numbering::own_places;
-use crate::parts::{Parts, next};
+use crate::parts::Parts;
 use crate::walker::Walker;
 use std::alloc::{AllocError, Global};
 use zl_ast::{Decl, Eqn, Expr, Param};
 use zl_flat::{Here, Root};
 use zl_meaning::Definer;
+use zl_value::Ty;
 
 /// The places of the parameters.
 pub(crate) fn add_params(
@@ -29,10 +31,11 @@ pub(crate) fn add_params(
     ensures { OnOk result (out.new ≡ joined out.old (some_places (map (param_place (instance_in instance.now) here) params.now))) }
 {
     for param in params {
-        let Some(x) = instance.variable(param.name.id) else {
-            return Err(AllocError);
+        let ty = match instance.variable(param.name.id) {
+            Some(x) => x.ty,
+            None => Ty::Int,
         };
-        out.add_place(here.place(alloc, x.ty, param.name.id, param.name.at))?;
+        out.add_place(here.place(alloc, ty, param.name.id, param.name.at))?;
     }
     Ok(())
 }
@@ -45,13 +48,11 @@ fn add_arguments(
     arguments: &[Root],
     out: &mut Parts,
 ) -> Result<(), AllocError>
+    requires { first + length params.now < 2 ^ 32 }
     ensures { OnOk result (out.new ≡ joined out.old (some_definers (argument_definers here first params.now arguments.now))) }
 {
-    if params.len() != arguments.len() {
-        return Err(AllocError);
-    }
     let mut place = first;
-    for argument in arguments {
+    for (argument, _param) in arguments.iter().zip(params) {
         out.define(
             place,
             Definer::Plain {
@@ -59,7 +60,7 @@ fn add_arguments(
                 occ: argument.occ,
             },
         )?;
-        place = next(place)?;
+        place += 1;
     }
     Ok(())
 }
@@ -77,27 +78,26 @@ impl<
         arguments: &[Root],
         out: &mut Parts,
     ) -> Result<Vec<Root>, AllocError>
-        requires { Walks self.now.room (X.pre self.now.expr) (X.post self.now.expr) (Q.pre self.now.eqns) (Q.post self.now.eqns) }
+        requires walks { Walks self.now.depth (X.pre self.now.expr) (X.post self.now.expr) (Q.pre self.now.eqns) (Q.post self.now.eqns) }
+        requires room { HasRoom (self.now.depth + 2) instance.now.base out.old (callee ((instance_in instance.now).callees name) here arguments.now (counters out.old)).parts }
         ensures made { OnOk result (out.new ≡ joined out.old (callee ((instance_in instance.now).callees name) here arguments.now (counters out.old)).parts) }
         ensures results { IfOk result (λ r. r.items ≡ (callee ((instance_in instance.now).callees name) here arguments.now (counters out.old)).results) }
     {
         let declared = instance.known.declared;
-        let number = match declared.index.find(name) {
-            Some(number) => number,
-            None => return Err(AllocError),
+        let Some(number) = declared.find(name) else {
+            return Ok(Vec::new(self.alloc));
         };
         if number >= instance.known.number {
-            return Err(AllocError);
+            return Ok(Vec::new(self.alloc));
         }
-        let Some(decl) = declared.decls.get(number) else {
-            return Err(AllocError);
-        };
+        let decls = declared.decls;
+        let decl = &decls[number];
         let known = Known {
             declared,
             sizes: instance.known.sizes,
             number,
         };
-        let first = out.next_place()?;
+        let first = out.next_place();
         let own = own_places(self.alloc, &known, decl, first)?;
         let callee = Instance {
             known: &known,
@@ -118,7 +118,8 @@ impl<
         decl: &Decl,
         out: &mut Parts,
     ) -> Result<Vec<Root>, AllocError>
-        requires { Walks self.now.room (X.pre self.now.expr) (X.post self.now.expr) (Q.pre self.now.eqns) (Q.post self.now.eqns) }
+        requires walks { Walks self.now.depth (X.pre self.now.expr) (X.post self.now.expr) (Q.pre self.now.eqns) (Q.post self.now.eqns) }
+        requires room { HasRoom (self.now.depth + 2) instance.now.base out.old (inside_in instance.now decl.now here (counters out.old)).parts }
         ensures made { OnOk result (out.new ≡ joined out.old (inside_in instance.now decl.now here (counters out.old)).parts) }
         ensures results { IfOk result (λ r. r.items ≡ (inside_in instance.now decl.now here (counters out.old)).results) }
     {

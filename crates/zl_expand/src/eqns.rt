@@ -1,5 +1,5 @@
 //! The walk of equations.
-#![tactic(auto, using(crate::proofs::WalkLaws::walking))]
+#![tactic(auto, using(crate::proofs::WalkLaws::roomy))]
 
 ghost use Rattle.std.specs.Prelude.{◌≡◌, ◌+◌, ◌∷◌, map, length, OnOk, IfOk};
 ghost use Rattle.std.specs.Option.{option_map};
@@ -9,17 +9,17 @@ ghost use Rattle.zl_flat.specs.Expressions.{expr_walk};
 ghost use Rattle.zl_flat.specs.Equations as spec;
 ghost use Rattle.zl_flat.specs.Equations.{eqn_walk, arm_walk, body_walk};
 ghost use Rattle.zl_expand.specs.Walks.{Walks};
+ghost use Rattle.zl_expand.specs.Room.{HasRoom};
 ghost use Rattle.zl_expand.specs.Kept.{counters, instance_in, names_in};
 
 use crate::instance::Instance;
-use crate::operators::built_in_op;
-use crate::parts::{Parts, next};
+use crate::parts::Parts;
 use crate::walker::Walker;
 use std::alloc::{AllocError, Global};
 use zl_ast::{Arm, Body, Cond, Eqn, Expr, Name, ResetArm};
 use zl_flat::{Here, Root};
 use zl_meaning::{BlockKind, Choice, Definer, DerArm};
-use zl_value::Sequence;
+use zl_value::{Sequence, Ty};
 
 /// A name that is declared or defined: where it is the first of its variable, that gets its place.
 fn add_name(
@@ -34,10 +34,11 @@ fn add_name(
     if !instance.known.is_first(name) {
         return Ok(());
     }
-    let Some(x) = instance.variable(name.id) else {
-        return Err(AllocError);
+    let ty = match instance.variable(name.id) {
+        Some(x) => x.ty,
+        None => Ty::Int,
     };
-    out.add_place(here.place(alloc, x.ty, name.id, name.at))
+    out.add_place(here.place(alloc, ty, name.id, name.at))
 }
 
 pub(crate) fn add_names(
@@ -60,7 +61,7 @@ fn place_of(instance: &Instance, name: Name) -> Result<u32, AllocError>
 {
     match instance.variable(name.id) {
         Some(x) => Ok(x.place),
-        None => Err(AllocError),
+        None => Ok(0),
     }
 }
 
@@ -74,9 +75,6 @@ fn define_names(
 ) -> Result<(), AllocError>
     ensures { OnOk result (out.new ≡ joined out.old (some_definers (spec.plain_definers (instance_in instance.now) here names.now roots.now))) }
 {
-    if names.len() != roots.len() {
-        return Err(AllocError);
-    }
     for (name, root) in names.iter().zip(roots) {
         let place = place_of(instance, *name)?;
         out.define(
@@ -129,7 +127,8 @@ impl<
         right: &Expr,
         out: &mut Parts,
     ) -> Result<(), AllocError>
-        requires { Walks self.now.room (X.pre self.now.expr) (X.post self.now.expr) (Q.pre self.now.eqns) (Q.post self.now.eqns) }
+        requires walks { Walks self.now.depth (X.pre self.now.expr) (X.post self.now.expr) (Q.pre self.now.eqns) (Q.post self.now.eqns) }
+        requires room { HasRoom (self.now.depth + 1) instance.now.base out.old (spec.plain instance.now.base (names_in instance.now) (instance_in instance.now) left.now (expr_walk instance.now.base (names_in instance.now) (instance_in instance.now) right.now) here (counters out.old)) }
         ensures { OnOk result (out.new ≡ joined out.old (spec.plain instance.now.base (names_in instance.now) (instance_in instance.now) left.now (expr_walk instance.now.base (names_in instance.now) (instance_in instance.now) right.now) here (counters out.old))) }
     {
         add_names(self.alloc, instance, instance.in_body(here), left, out)?;
@@ -137,16 +136,8 @@ impl<
             let root = self.expr(instance, here, right, out)?;
             return define_names(instance, here, left, &[root], out);
         }
-        match right {
-            Expr::Call { name, args } => {
-                if built_in_op(instance.known.declared.names, name.id).is_some() {
-                    return Err(AllocError);
-                }
-                let called = self.walk_call(instance, here, *name, args.as_slice(), out)?;
-                define_names(instance, here, left, called.results.as_slice(), out)
-            }
-            _ => Err(AllocError),
-        }
+        let results = self.walk_results(instance, here, right, out)?;
+        define_names(instance, here, left, results.as_slice(), out)
     }
 
     fn walk_resets(
@@ -156,7 +147,8 @@ impl<
         resets: &[ResetArm],
         out: &mut Parts,
     ) -> Result<Vec<DerArm>, AllocError>
-        requires { Walks self.now.room (X.pre self.now.expr) (X.post self.now.expr) (Q.pre self.now.eqns) (Q.post self.now.eqns) }
+        requires walks { Walks self.now.depth (X.pre self.now.expr) (X.post self.now.expr) (Q.pre self.now.eqns) (Q.post self.now.eqns) }
+        requires room { HasRoom (self.now.depth + 1) instance.now.base out.old (spec.resets_made instance.now.base (names_in instance.now) (instance_in instance.now) (map (spec.reset_arm_walk instance.now.base (names_in instance.now) (instance_in instance.now)) resets.now) here (counters out.old)).parts }
         ensures made { OnOk result (out.new ≡ joined out.old (spec.resets_made instance.now.base (names_in instance.now) (instance_in instance.now) (map (spec.reset_arm_walk instance.now.base (names_in instance.now) (instance_in instance.now)) resets.now) here (counters out.old)).parts) }
         ensures arms { IfOk result (λ arms. arms.items ≡ (spec.resets_made instance.now.base (names_in instance.now) (instance_in instance.now) (map (spec.reset_arm_walk instance.now.base (names_in instance.now) (instance_in instance.now)) resets.now) here (counters out.old)).arms) }
     {
@@ -179,7 +171,8 @@ impl<
         start: &Option<Expr>,
         out: &mut Parts,
     ) -> Result<Option<u32>, AllocError>
-        requires { Walks self.now.room (X.pre self.now.expr) (X.post self.now.expr) (Q.pre self.now.eqns) (Q.post self.now.eqns) }
+        requires walks { Walks self.now.depth (X.pre self.now.expr) (X.post self.now.expr) (Q.pre self.now.eqns) (Q.post self.now.eqns) }
+        requires room { HasRoom (self.now.depth + 1) instance.now.base out.old (spec.start_made instance.now.base (names_in instance.now) (instance_in instance.now) (spec.start_walk instance.now.base (names_in instance.now) (instance_in instance.now) start.now) here (counters out.old)).parts }
         ensures made { OnOk result (out.new ≡ joined out.old (spec.start_made instance.now.base (names_in instance.now) (instance_in instance.now) (spec.start_walk instance.now.base (names_in instance.now) (instance_in instance.now) start.now) here (counters out.old)).parts) }
         ensures value { IfOk result (λ value. value ≡ (spec.start_made instance.now.base (names_in instance.now) (instance_in instance.now) (spec.start_walk instance.now.base (names_in instance.now) (instance_in instance.now) start.now) here (counters out.old)).value) }
     {
@@ -203,7 +196,8 @@ impl<
         resets: &[ResetArm],
         out: &mut Parts,
     ) -> Result<(), AllocError>
-        requires { Walks self.now.room (X.pre self.now.expr) (X.post self.now.expr) (Q.pre self.now.eqns) (Q.post self.now.eqns) }
+        requires walks { Walks self.now.depth (X.pre self.now.expr) (X.post self.now.expr) (Q.pre self.now.eqns) (Q.post self.now.eqns) }
+        requires room { HasRoom (self.now.depth + 1) instance.now.base out.old (spec.der instance.now.base (names_in instance.now) (instance_in instance.now) name (expr_walk instance.now.base (names_in instance.now) (instance_in instance.now) slope.now) (spec.start_walk instance.now.base (names_in instance.now) (instance_in instance.now) start.now) (map (spec.reset_arm_walk instance.now.base (names_in instance.now) (instance_in instance.now)) resets.now) here (counters out.old)) }
         ensures { OnOk result (out.new ≡ joined out.old (spec.der instance.now.base (names_in instance.now) (instance_in instance.now) name (expr_walk instance.now.base (names_in instance.now) (instance_in instance.now) slope.now) (spec.start_walk instance.now.base (names_in instance.now) (instance_in instance.now) start.now) (map (spec.reset_arm_walk instance.now.base (names_in instance.now) (instance_in instance.now)) resets.now) here (counters out.old))) }
     {
         add_name(self.alloc, instance, instance.in_body(here), name, out)?;
@@ -224,7 +218,8 @@ impl<
         value: &Expr,
         out: &mut Parts,
     ) -> Result<(), AllocError>
-        requires { Walks self.now.room (X.pre self.now.expr) (X.post self.now.expr) (Q.pre self.now.eqns) (Q.post self.now.eqns) }
+        requires walks { Walks self.now.depth (X.pre self.now.expr) (X.post self.now.expr) (Q.pre self.now.eqns) (Q.post self.now.eqns) }
+        requires room { HasRoom (self.now.depth + 1) instance.now.base out.old (spec.init instance.now.base (names_in instance.now) (instance_in instance.now) name (expr_walk instance.now.base (names_in instance.now) (instance_in instance.now) value.now) here (counters out.old)) }
         ensures { OnOk result (out.new ≡ joined out.old (spec.init instance.now.base (names_in instance.now) (instance_in instance.now) name (expr_walk instance.now.base (names_in instance.now) (instance_in instance.now) value.now) here (counters out.old))) }
     {
         add_name(self.alloc, instance, instance.in_body(here), name, out)?;
@@ -246,7 +241,8 @@ impl<
         eqn: &Eqn,
         out: &mut Parts,
     ) -> Result<(), AllocError>
-        requires { Walks self.now.room (X.pre self.now.expr) (X.post self.now.expr) (Q.pre self.now.eqns) (Q.post self.now.eqns) }
+        requires walks { Walks self.now.depth (X.pre self.now.expr) (X.post self.now.expr) (Q.pre self.now.eqns) (Q.post self.now.eqns) }
+        requires room { HasRoom (self.now.depth + 1) instance.now.base out.old (eqn_walk instance.now.base (names_in instance.now) (instance_in instance.now) eqn.now here (counters out.old)) }
         ensures { OnOk result (out.new ≡ joined out.old (eqn_walk instance.now.base (names_in instance.now) (instance_in instance.now) eqn.now here (counters out.old))) }
     {
         match eqn {
@@ -280,7 +276,8 @@ impl<
         eqns: &[Eqn],
         out: &mut Parts,
     ) -> Result<(), AllocError>
-        requires { Walks self.now.room (X.pre self.now.expr) (X.post self.now.expr) (Q.pre self.now.eqns) (Q.post self.now.eqns) }
+        requires walks { Walks self.now.depth (X.pre self.now.expr) (X.post self.now.expr) (Q.pre self.now.eqns) (Q.post self.now.eqns) }
+        requires room { HasRoom (self.now.depth + 1) instance.now.base out.old (spec.eqns_walk instance.now.base (names_in instance.now) (instance_in instance.now) eqns.now here (counters out.old)) }
         ensures { OnOk result (out.new ≡ joined out.old (spec.eqns_walk instance.now.base (names_in instance.now) (instance_in instance.now) eqns.now here (counters out.old))) }
     {
         for eqn in eqns {
@@ -297,7 +294,8 @@ impl<
         body: &Body,
         out: &mut Parts,
     ) -> Result<(), AllocError>
-        requires { Walks self.now.room (X.pre self.now.expr) (X.post self.now.expr) (Q.pre self.now.eqns) (Q.post self.now.eqns) }
+        requires walks { Walks self.now.depth (X.pre self.now.expr) (X.post self.now.expr) (Q.pre self.now.eqns) (Q.post self.now.eqns) }
+        requires room { HasRoom (self.now.depth + 2) instance.now.base out.old (body_walk instance.now.base (names_in instance.now) (instance_in instance.now) body.now here (counters out.old)) }
         ensures { OnOk result (out.new ≡ joined out.old (body_walk instance.now.base (names_in instance.now) (instance_in instance.now) body.now here (counters out.old))) }
     {
         add_names(self.alloc, instance, here, body.locals.as_slice(), out)?;
@@ -314,7 +312,8 @@ impl<
         body: &Body,
         out: &mut Parts,
     ) -> Result<(), AllocError>
-        requires { Walks self.now.room (X.pre self.now.expr) (X.post self.now.expr) (Q.pre self.now.eqns) (Q.post self.now.eqns) }
+        requires walks { Walks self.now.depth (X.pre self.now.expr) (X.post self.now.expr) (Q.pre self.now.eqns) (Q.post self.now.eqns) }
+        requires room { HasRoom (self.now.depth + 1) instance.now.base out.old (spec.body_of_choice (body_walk instance.now.base (names_in instance.now) (instance_in instance.now) body.now) of arm here (counters out.old)) }
         ensures { OnOk result (out.new ≡ joined out.old (spec.body_of_choice (body_walk instance.now.base (names_in instance.now) (instance_in instance.now) body.now) of arm here (counters out.old))) }
     {
         let kind = BlockKind::Arm { of, arm };
@@ -333,7 +332,8 @@ impl<
         arm: &Arm,
         out: &mut Parts,
     ) -> Result<u32, AllocError>
-        requires { Walks self.now.room (X.pre self.now.expr) (X.post self.now.expr) (Q.pre self.now.eqns) (Q.post self.now.eqns) }
+        requires walks { Walks self.now.depth (X.pre self.now.expr) (X.post self.now.expr) (Q.pre self.now.eqns) (Q.post self.now.eqns) }
+        requires room { HasRoom (self.now.depth + 1) instance.now.base out.old (arm_walk instance.now.base (names_in instance.now) (instance_in instance.now) arm.now of number here (counters out.old)).parts }
         ensures made { OnOk result (out.new ≡ joined out.old (arm_walk instance.now.base (names_in instance.now) (instance_in instance.now) arm.now of number here (counters out.old)).parts) }
         ensures test { IfOk result (λ k. k ≡ (arm_walk instance.now.base (names_in instance.now) (instance_in instance.now) arm.now of number here (counters out.old)).test) }
     {
@@ -351,7 +351,8 @@ impl<
         arms: &[Arm],
         out: &mut Parts,
     ) -> Result<(Vec<u32>, u32), AllocError>
-        requires { Walks self.now.room (X.pre self.now.expr) (X.post self.now.expr) (Q.pre self.now.eqns) (Q.post self.now.eqns) }
+        requires walks { Walks self.now.depth (X.pre self.now.expr) (X.post self.now.expr) (Q.pre self.now.eqns) (Q.post self.now.eqns) }
+        requires room { HasRoom (self.now.depth + 1) instance.now.base out.old (spec.arms_made (map (arm_walk instance.now.base (names_in instance.now) (instance_in instance.now)) arms.now) of 0 here (counters out.old)).parts }
         ensures made { OnOk result (out.new ≡ joined out.old (spec.arms_made (map (arm_walk instance.now.base (names_in instance.now) (instance_in instance.now)) arms.now) of 0 here (counters out.old)).parts) }
         ensures tests { IfOk result (λ r. r.0.items ≡ (spec.arms_made (map (arm_walk instance.now.base (names_in instance.now) (instance_in instance.now)) arms.now) of 0 here (counters out.old)).tests) }
         ensures count { IfOk result (λ r. r.1 ≡ length arms.now) }
@@ -360,7 +361,7 @@ impl<
         let mut number = 0;
         for arm in arms {
             conds.push(self.walk_arm(instance, here, of, number, arm, out)?)?;
-            number = next(number)?;
+            number += 1;
         }
         Ok((conds, number))
     }
@@ -375,7 +376,8 @@ impl<
         other: &Option<Body>,
         out: &mut Parts,
     ) -> Result<(), AllocError>
-        requires { Walks self.now.room (X.pre self.now.expr) (X.post self.now.expr) (Q.pre self.now.eqns) (Q.post self.now.eqns) }
+        requires walks { Walks self.now.depth (X.pre self.now.expr) (X.post self.now.expr) (Q.pre self.now.eqns) (Q.post self.now.eqns) }
+        requires room { HasRoom (self.now.depth + 1) instance.now.base out.old (spec.other_made instance.now.base (names_in instance.now) (instance_in instance.now) (option_map (body_walk instance.now.base (names_in instance.now) (instance_in instance.now)) other.now) of number here (counters out.old)) }
         ensures { OnOk result (out.new ≡ joined out.old (spec.other_made instance.now.base (names_in instance.now) (instance_in instance.now) (option_map (body_walk instance.now.base (names_in instance.now) (instance_in instance.now)) other.now) of number here (counters out.old))) }
     {
         match other {
@@ -392,7 +394,8 @@ impl<
         other: &Option<Body>,
         out: &mut Parts,
     ) -> Result<(), AllocError>
-        requires { Walks self.now.room (X.pre self.now.expr) (X.post self.now.expr) (Q.pre self.now.eqns) (Q.post self.now.eqns) }
+        requires walks { Walks self.now.depth (X.pre self.now.expr) (X.post self.now.expr) (Q.pre self.now.eqns) (Q.post self.now.eqns) }
+        requires room { HasRoom (self.now.depth + 1) instance.now.base out.old (spec.present instance.now.base (names_in instance.now) (instance_in instance.now) (map (arm_walk instance.now.base (names_in instance.now) (instance_in instance.now)) arms.now) (option_map (body_walk instance.now.base (names_in instance.now) (instance_in instance.now)) other.now) here (counters out.old)) }
         ensures { OnOk result (out.new ≡ joined out.old (spec.present instance.now.base (names_in instance.now) (instance_in instance.now) (map (arm_walk instance.now.base (names_in instance.now) (instance_in instance.now)) arms.now) (option_map (body_walk instance.now.base (names_in instance.now) (instance_in instance.now)) other.now) here (counters out.old))) }
     {
         let of = out.leave_choice(self.alloc)?;
@@ -418,7 +421,8 @@ impl<
         cond: &Cond,
         out: &mut Parts,
     ) -> Result<(), AllocError>
-        requires { Walks self.now.room (X.pre self.now.expr) (X.post self.now.expr) (Q.pre self.now.eqns) (Q.post self.now.eqns) }
+        requires walks { Walks self.now.depth (X.pre self.now.expr) (X.post self.now.expr) (Q.pre self.now.eqns) (Q.post self.now.eqns) }
+        requires room { HasRoom (self.now.depth + 1) instance.now.base out.old (spec.reset instance.now.base (names_in instance.now) (instance_in instance.now) (map (eqn_walk instance.now.base (names_in instance.now) (instance_in instance.now)) eqs.now) (spec.cond_walk instance.now.base (names_in instance.now) (instance_in instance.now) cond.now) here (counters out.old)) }
         ensures { OnOk result (out.new ≡ joined out.old (spec.reset instance.now.base (names_in instance.now) (instance_in instance.now) (map (eqn_walk instance.now.base (names_in instance.now) (instance_in instance.now)) eqs.now) (spec.cond_walk instance.now.base (names_in instance.now) (instance_in instance.now) cond.now) here (counters out.old))) }
     {
         let block = out.leave_block()?;

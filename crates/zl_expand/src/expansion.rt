@@ -1,23 +1,26 @@
 //! The flat form of a program.
 #![tactic(auto, using(crate::proofs::ExpandLemmas::expanding))]
 
-ghost use Rattle.std.specs.Prelude.{◌≡◌, ◌++◌, length, OnOk, IfOk, IfErr};
+ghost use Rattle.std.specs.Prelude.{◌≡◌, ◌^◌, ◌<◌, ◌++◌, length, OnOk, IfOk, IfErr};
 ghost use Rattle.zl_value.specs.Lists.{listed};
 ghost use Rattle.zl_ast.specs.NamesRules as rules_of_names;
-ghost use Rattle.zl_flat.specs.Parts.{joined, some_definers};
+ghost use Rattle.zl_ast.specs.Scopes as rules;
+ghost use Rattle.zl_flat.specs.Checked.{IsChecked};
+ghost use Rattle.zl_flat.specs.Parts.{joined, nothing, some_definers};
 ghost use Rattle.zl_flat.specs.Expansion.{input_definers, result_place, result_places};
 ghost use Rattle.zl_expand.specs.Kept.{instance_in};
 ghost use Rattle.zl_expand.specs.KeptDecls.{program_in, IsMeasured};
 ghost use Rattle.zl_flat.specs.Limits.{FitsIn, IsExpandRefusedBy};
 ghost use Rattle.zl_flat.specs.Flat.{IsFlatOf};
-ghost use Rattle.zl_expand.specs.Tables.{form_in, main_in};
+ghost use Rattle.zl_expand.specs.Tables.{form_in, main_in, parts_in};
+ghost use Rattle.zl_expand.specs.Room.{HasRoom};
 
 use crate::copy::add_params;
 use crate::decls::{Declared, Known};
 use crate::instance::Instance;
 use crate::limits::{Measured, measure, refuse_too_large};
 use crate::numbering::own_places;
-use crate::parts::{Parts, next, number};
+use crate::parts::{Parts, number};
 use crate::tables::{Tables, make_tables};
 use crate::walker::walk_body;
 use std::alloc::{AllocError, Global};
@@ -28,6 +31,7 @@ use zl_value::Refusal;
 
 /// The parameters of `main` are inputs. It answers their places.
 fn add_inputs(alloc: Global, params: &[Param], out: &mut Parts) -> Result<Vec<u32>, AllocError>
+    requires { length params.now < 2 ^ 32 }
     ensures made { OnOk result (out.new ≡ joined out.old (some_definers (input_definers 0 params.now))) }
     ensures ins { IfOk result (λ ins. ins.items ≡ listed (length params.now) 0 (λ n. n)) }
 {
@@ -36,7 +40,7 @@ fn add_inputs(alloc: Global, params: &[Param], out: &mut Parts) -> Result<Vec<u3
     for _param in params {
         out.define(n, Definer::Input(n))?;
         ins.push(n)?;
-        n = next(n)?;
+        n += 1;
     }
     Ok(ins)
 }
@@ -61,7 +65,10 @@ fn add_result(instance: &Instance, expr: &Expr, places: &mut Vec<u32>) -> Result
                 places.push(x.place)?;
                 Ok(())
             }
-            None => Err(AllocError),
+            None => {
+                places.push(0)?;
+                Ok(())
+            }
         },
         _ => Ok(()),
     }
@@ -84,6 +91,7 @@ fn result_places(
 
 /// What `main` expands to, where the hidden occurrences are numbered from `base` on.
 fn walk_main(alloc: Global, known: &Known, decl: &Decl, base: u32) -> Result<Tables, AllocError>
+    requires { HasRoom 2 base nothing (parts_in known.now decl.now base) }
     ensures { IfOk result (λ t. form_in t ≡ main_in known.now decl.now base) }
 {
     let own = own_places(alloc, known, decl, 0)?;
@@ -120,6 +128,8 @@ fn expand_main(
 ) -> Result<Tables, AllocError>
     requires measured { IsMeasured declared.now measured.now }
     requires fits { FitsIn (program_in declared.now) declared.now.scopes.now declared.now.types.now }
+    requires scopes { declared.now.scopes.now ≡ rules.scopes (program_in declared.now) }
+    requires checked { IsChecked (program_in declared.now) declared.now.types.now }
     ensures { IfOk result (λ t. IsFlatOf (program_in declared.now) declared.now.scopes.now declared.now.types.now (form_in t)) }
 {
     let known = Known {
@@ -127,17 +137,20 @@ fn expand_main(
         sizes: measured.sizes.as_slice(),
         number: measured.main,
     };
-    let base = number(measured.size.occs as usize)?;
+    let base = number(measured.size.occs as usize);
     walk_main(alloc, &known, &declared.decls[measured.main], base)
 }
 
 /// The tables of a program's flat form.
+#[tactic(auto, using(crate::proofs::CheckedLemmas::checking))]
 pub fn expand_tables(
     alloc: Global,
     program: &Program,
     scopes: &Scopes,
     typing: &Typing,
 ) -> Result<Tables, Refusal>
+    requires scopes { scopes.now.decls ≡ rules.scopes program.now }
+    requires checked { IsChecked program.now typing.now.decls }
     ensures flat { IfOk result (λ t. IsFlatOf program.now scopes.now.decls typing.now.decls (form_in t)) }
     ensures refused { IfErr result (IsExpandRefusedBy program.now scopes.now.decls typing.now.decls) }
 {

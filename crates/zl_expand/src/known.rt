@@ -1,7 +1,7 @@
 //! What is known of declarations by name.
 #![tactic(auto, using(crate::proofs::KnownLemmas::knowing))]
 
-ghost use Rattle.std.specs.Prelude.{◌≡◌, map, nat_eq, is_some, IfOk};
+ghost use Rattle.std.specs.Prelude.{◌≡◌, ◌<◌, length, map, nat_eq, is_some, IfOk, IfSome};
 ghost use Rattle.std.specs.List.{position};
 ghost use Rattle.zl_flat.specs.Sizes as spec;
 ghost use Rattle.zl_flat.specs.FirstPlaces.{place_in_text, is_first};
@@ -19,11 +19,8 @@ use zl_value::{Pos, Sequence, Ty};
 fn index_vars(alloc: Global, infos: &[VarInfo]) -> Result<NameIndex, AllocError>
     ensures { IfOk result (λ index. index ≡ map (λ v. v.name) infos.now) }
 {
-    let mut index = NameIndex::new(alloc);
-    for info in infos {
-        index.push(info.name)?;
-    }
-    Ok(index)
+    let ids = infos.iter().map(|info| info.name).collect(alloc)?;
+    NameIndex::new(alloc, ids)
 }
 
 fn index_scopes(alloc: Global, scopes: &[Sequence<VarInfo>]) -> Result<Vec<NameIndex>, AllocError>
@@ -39,11 +36,8 @@ fn index_scopes(alloc: Global, scopes: &[Sequence<VarInfo>]) -> Result<Vec<NameI
 fn index_decls(alloc: Global, decls: &[Decl]) -> Result<NameIndex, AllocError>
     ensures { IfOk result (λ index. index ≡ map (λ d. d.name.id) decls.now) }
 {
-    let mut index = NameIndex::new(alloc);
-    for decl in decls {
-        index.push(decl.name.id)?;
-    }
-    Ok(index)
+    let ids = decls.iter().map(|decl| decl.name.id).collect(alloc)?;
+    NameIndex::new(alloc, ids)
 }
 
 impl<'a> Declared<'a> {
@@ -54,14 +48,13 @@ impl<'a> Declared<'a> {
         scopes: &'a [Sequence<VarInfo>],
         types: &'a [Sequence<Ty>],
     ) -> Result<Declared<'a>, AllocError>
+        requires scoped { length scopes.now ≡ length decls.now }
+        requires typed { length types.now ≡ length decls.now }
         ensures decls { IfOk result (λ d. d.decls.now ≡ decls.now) }
         ensures names { IfOk result (λ d. d.names.now ≡ names.now) }
         ensures scopes { IfOk result (λ d. d.scopes.now ≡ scopes.now) }
         ensures types { IfOk result (λ d. d.types.now ≡ types.now) }
     {
-        if scopes.len() != decls.len() || types.len() != decls.len() {
-            return Err(AllocError);
-        }
         let index = index_decls(alloc, decls)?;
         let vars = index_scopes(alloc, scopes)?;
         Ok(Declared {
@@ -72,6 +65,16 @@ impl<'a> Declared<'a> {
             index,
             vars,
         })
+    }
+}
+
+impl Declared<'_> {
+    /// The number of the first declaration of this name.
+    pub(crate) fn find(&self, id: u32) -> Option<usize>
+        ensures is { result ≡ position (nat_eq id) (map (λ d. d.name.id) self.now.decls.now) }
+        ensures within { IfSome result (λ n. n < length self.now.decls.now) }
+    {
+        self.index.find(id)
     }
 }
 
@@ -113,7 +116,7 @@ impl Known<'_> {
     pub(crate) fn called_size(&self, id: u32) -> Size
         ensures { result ≡ capped (spec.called_size (known_in self.now id)) }
     {
-        let Some(callee) = self.declared.index.find(id) else {
+        let Some(callee) = self.declared.find(id) else {
             return Size::none();
         };
         if callee >= self.number {

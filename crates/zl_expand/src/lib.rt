@@ -11,14 +11,13 @@ mod flat;
 mod instance;
 mod known;
 mod limits;
+mod linked;
 mod name_index;
 mod numbering;
 mod operators;
 mod parts;
 mod states;
 mod tables;
-#[cfg(test)]
-mod tests;
 mod tests_of;
 mod texts;
 mod walk;

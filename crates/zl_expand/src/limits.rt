@@ -4,6 +4,7 @@
 ghost use Rattle.std.specs.Prelude.{◌≡◌, ◌≤◌, true, false, [], length, map, take, IfOk, IfErr, OnOk};
 ghost use Rattle.std.specs.List.{position};
 ghost use Rattle.zl_ast.specs.Names as names;
+ghost use Rattle.zl_ast.specs.NamesRules.{has_main};
 ghost use Rattle.zl_flat.specs.Capped.{capped};
 ghost use Rattle.zl_flat.specs.ScopedDecls.{with_sizes};
 ghost use Rattle.zl_expand.specs.KeptDecls.{scoped_in, program_in, IsMeasured};
@@ -54,12 +55,13 @@ fn sizes_before(alloc: Global, declared: &Declared, number: usize) -> Result<Vec
     Ok(sizes)
 }
 
-/// Measures what `main` expands to. A program that has no `main` can't be told from want of memory.
+/// Measures what `main` expands to.
 pub(crate) fn measure(alloc: Global, declared: &Declared) -> Result<Measured, AllocError>
+    requires { has_main declared.now.names.now declared.now.decls.now ≡ true }
     ensures { IfOk result (IsMeasured declared.now) }
 {
     let Some(main) = find_main(declared) else {
-        return Err(AllocError);
+        unreachable!()
     };
     let sizes = sizes_before(alloc, declared, main)?;
     let known = Known {

@@ -1,47 +1,59 @@
-ghost use Rattle.std.specs.Prelude.{◌≡◌, [], ◌∷◌, ◌++◌, nat_eq, OnOk};
-ghost use Rattle.std.specs.List.{position};
+#![tactic(auto, using(crate::proofs::IndexLemmas::indexing))]
 
-use indexmap::IndexSet;
+ghost use Rattle.std.specs.Prelude.{◌≡◌, ℕ, nat_eq, IfOk, OnOk};
+ghost use Rattle.std.specs.List.{position};
+ghost use Rattle.indexmap.specs.IndexMap.{get};
+ghost use Rattle.zl_expand.specs.FirstOf.{or_here};
+
+use indexmap::IndexMap;
 use std::alloc::{AllocError, Global};
 use std::marker::Model;
 
-/// Numbers of different names, in the order in which they came.
+/// Numbers of names, in their order, by which the first place of each is found.
 #[derive(Drop)]
 pub(crate) struct NameIndex {
-    ids: IndexSet<u32>,
+    ids: Vec<u32>,
+    firsts: IndexMap<u32, usize>,
 }
 
 impl Model for NameIndex {
-    ghost use Rattle.std.specs.Prelude.{ℕ, List};
+    ghost use Rattle.std.specs.Prelude.{ℕ, List, nat_eq, ◌≡◌};
+    ghost use Rattle.std.specs.List.{position};
+    ghost use Rattle.indexmap.specs.IndexMap.{get};
 
     ghost Value = { List ℕ };
 
-    ghost view = { λ s. s.ids.keys };
+    ghost view = { λ s. s.ids.items };
+
+    ghost invariant = { λ s. (id : ℕ) → get nat_eq s.firsts id ≡ position (nat_eq id) s.ids.items };
+}
+
+/// Puts the place of a name down, unless an earlier one is known.
+fn note_first(firsts: &mut IndexMap<u32, usize>, id: u32, place: usize) -> Result<(), AllocError>
+    ensures { OnOk result ((other : ℕ) → get nat_eq firsts.new other ≡ or_here (get nat_eq firsts.old other) (nat_eq other id) place) }
+{
+    if firsts.contains_key(&id) {
+        return Ok(());
+    }
+    firsts.insert(id, place)?;
+    Ok(())
 }
 
 impl NameIndex {
-    pub(crate) fn new(alloc: Global) -> NameIndex
-        ensures { result ≡ [] }
+    pub(crate) fn new(alloc: Global, ids: Vec<u32>) -> Result<NameIndex, AllocError>
+        ensures { IfOk result (λ index. index ≡ ids.items) }
     {
-        NameIndex {
-            ids: IndexSet::new(alloc),
+        let mut firsts = IndexMap::new(alloc);
+        for (place, id) in ids.iter().enumerate() {
+            note_first(&mut firsts, *id, place)?;
         }
+        Ok(NameIndex { ids, firsts })
     }
 
-    /// Which one this name is, from 0.
+    /// Which one this name is, from 0: the first, where it is there more than once.
     pub(crate) fn find(&self, id: u32) -> Option<usize>
         ensures { result ≡ position (nat_eq id) self.now }
     {
-        self.ids.get_index_of(&id)
-    }
-
-    /// Adds a name. That it is there already is no program's case that keeps the rules of names.
-    pub(crate) fn push(&mut self, id: u32) -> Result<(), AllocError>
-        ensures { OnOk result (self.new ≡ self.old ++ id ∷ []) }
-    {
-        match self.ids.insert_full(id) {
-            Ok((_, true)) => Ok(()),
-            _ => Err(AllocError),
-        }
+        self.firsts.get(&id).copied()
     }
 }

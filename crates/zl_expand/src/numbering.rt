@@ -1,7 +1,7 @@
 //! The places of the variables in a copy of a declaration's body.
 #![tactic(auto, using(crate::proofs::NumberingSums::numbering))]
 
-ghost use Rattle.std.specs.Prelude.{◌≡◌, ◌+◌, ◌^◌, ◌<◌, ◌++◌, [], map, OnOk, IfOk};
+ghost use Rattle.std.specs.Prelude.{◌≡◌, ◌+◌, ◌^◌, ◌<◌, ◌≤◌, ◌++◌, [], map, OnOk, OnErr, IfOk};
 ghost use Rattle.zl_flat.specs.Numbering as spec;
 ghost use Rattle.zl_flat.specs.Sizes as sizes;
 ghost use Rattle.zl_expand.specs.Kept.{infos_in, known_in, Numbers};
@@ -12,6 +12,28 @@ use crate::expr_size::{expr_size, exprs_size};
 use std::alloc::{AllocError, Global};
 use zl_ast::{Arm, Body, Cond, Decl, Eqn, Expr, Move, Name, Param, ResetArm, State};
 use zl_flat::Size;
+
+/// A count as a number of a place; fails exactly where it is past 32 bits, which isn't told from want of memory.
+fn number(count: usize) -> Result<u32, AllocError>
+    ensures is { IfOk result (λ n. n ≡ count) }
+    ensures wide { OnErr result (2 ^ 32 ≤ count) }
+{
+    match u32::try_from(count) {
+        Ok(n) => Ok(n),
+        Err(_) => Err(AllocError),
+    }
+}
+
+/// The sum of two numbers; fails exactly where it is past 32 bits, which isn't told from want of memory.
+fn sum(a: u32, b: u32) -> Result<u32, AllocError>
+    ensures is { IfOk result (λ n. n ≡ a + b) }
+    ensures wide { OnErr result (2 ^ 32 ≤ a + b) }
+{
+    match a.checked_add(b) {
+        Some(n) => Ok(n),
+        None => Err(AllocError),
+    }
+}
 
 /// The places of variables so far, and the next place.
 #[derive(Drop)]
@@ -25,11 +47,9 @@ impl Places {
     fn take(&mut self) -> Result<(), AllocError>
         ensures { OnOk result (Numbers self.old self.new spec.a_variable) }
     {
-        let Some(next) = self.next.checked_add(1) else {
-            return Err(AllocError);
-        };
+        let behind = sum(self.next, 1)?;
         self.own.push(self.next)?;
-        self.next = next;
+        self.next = behind;
         Ok(())
     }
 
@@ -38,13 +58,8 @@ impl Places {
         ensures made { OnOk result (Numbers self.old self.new (spec.of_calls size)) }
         ensures fits { OnOk result (size.places < 2 ^ 32) }
     {
-        let Ok(places) = u32::try_from(size.places) else {
-            return Err(AllocError);
-        };
-        let Some(next) = self.next.checked_add(places) else {
-            return Err(AllocError);
-        };
-        self.next = next;
+        let places = number(size.places as usize)?;
+        self.next = sum(self.next, places)?;
         Ok(())
     }
 }

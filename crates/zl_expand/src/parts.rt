@@ -1,7 +1,7 @@
 //! What a walk makes.
 #![tactic(auto, using(crate::proofs::PartsLaws::appending), unfolding(zl_flat::specs::Parts::joined, zl_flat::specs::Parts::nothing, zl_flat::specs::Parts::some_places, zl_flat::specs::Parts::some_definers, zl_flat::specs::Parts::one_block, zl_flat::specs::Parts::one_place, zl_flat::specs::Parts::one_occ, zl_flat::specs::Parts::one_hidden, zl_flat::specs::Parts::one_site, zl_flat::specs::Parts::one_choice, zl_flat::specs::Parts::one_automaton, crate::specs::Kept::with_block, crate::specs::Kept::with_occ, crate::specs::Kept::with_hidden, crate::specs::Kept::with_site, crate::specs::Kept::with_choice, crate::specs::Kept::with_automaton))]
 
-ghost use Rattle.std.specs.Prelude.{◌≡◌, ◌+◌, ◌<◌, [], ◌∷◌, length, OnOk, IfOk};
+ghost use Rattle.std.specs.Prelude.{◌≡◌, ◌+◌, ◌^◌, ◌<◌, [], ◌∷◌, length, OnOk, IfOk};
 ghost use Rattle.zl_flat.specs.Parts as spec;
 ghost use Rattle.zl_expand.specs.Kept as kept;
 
@@ -41,24 +41,12 @@ impl Model for Parts {
     } };
 }
 
-/// A count as a number of a table. One that is too large can't be told from want of memory.
-pub(crate) fn number(count: usize) -> Result<u32, AllocError>
-    ensures { IfOk result (λ n. n ≡ count) }
+/// A count as a number of a table.
+pub(crate) fn number(count: usize) -> u32
+    requires { count < 2 ^ 32 }
+    ensures { result ≡ count }
 {
-    match u32::try_from(count) {
-        Ok(n) => Ok(n),
-        Err(_) => Err(AllocError),
-    }
-}
-
-/// The number behind this one.
-pub(crate) fn next(n: u32) -> Result<u32, AllocError>
-    ensures { IfOk result (λ m. m ≡ n + 1) }
-{
-    match n.checked_add(1) {
-        Some(m) => Ok(m),
-        None => Err(AllocError),
-    }
+    count as u32
 }
 
 fn unset_occ(alloc: Global) -> Occ
@@ -89,14 +77,16 @@ impl Parts {
         }
     }
 
-    pub(crate) fn next_place(&self) -> Result<u32, AllocError>
-        ensures { IfOk result (λ n. n ≡ length self.now.places) }
+    pub(crate) fn next_place(&self) -> u32
+        requires { length self.now.places < 2 ^ 32 }
+        ensures { result ≡ length self.now.places }
     {
         number(self.places.len())
     }
 
-    pub(crate) fn next_site(&self) -> Result<u32, AllocError>
-        ensures { IfOk result (λ n. n ≡ length self.now.sites) }
+    pub(crate) fn next_site(&self) -> u32
+        requires { length self.now.sites < 2 ^ 32 }
+        ensures { result ≡ length self.now.sites }
     {
         number(self.sites.len())
     }
@@ -116,25 +106,28 @@ impl Parts {
     }
 
     pub(crate) fn add_block(&mut self, block: Block) -> Result<u32, AllocError>
+        requires { length self.old.blocks < 2 ^ 32 }
         ensures number { IfOk result (λ n. n ≡ length self.old.blocks) }
         ensures made { OnOk result (self.new ≡ spec.joined self.old (spec.one_block block)) }
     {
-        let n = number(self.blocks.len())?;
+        let n = number(self.blocks.len());
         self.blocks.push(block)?;
         Ok(n)
     }
 
     pub(crate) fn add_occ(&mut self, occ: Occ) -> Result<u32, AllocError>
+        requires { length self.old.occs < 2 ^ 32 }
         ensures number { IfOk result (λ n. n ≡ length self.old.occs) }
         ensures made { OnOk result (self.new ≡ spec.joined self.old (spec.one_occ occ)) }
     {
-        let n = number(self.occs.len())?;
+        let n = number(self.occs.len());
         self.occs.push(occ)?;
         Ok(n)
     }
 
     /// Leaves room for a block whose kind isn't known yet.
     pub(crate) fn leave_block(&mut self) -> Result<u32, AllocError>
+        requires { length self.old.blocks < 2 ^ 32 }
         ensures number { IfOk result (λ n. n ≡ length self.old.blocks) }
         ensures made { OnOk result (self.new ≡ spec.joined self.old (spec.one_block kept.unset_block)) }
     {
@@ -154,6 +147,7 @@ impl Parts {
 
     /// Leaves room for an occurrence whose parts aren't made yet.
     pub(crate) fn leave_occ(&mut self, alloc: Global) -> Result<u32, AllocError>
+        requires { length self.old.occs < 2 ^ 32 }
         ensures number { IfOk result (λ n. n ≡ length self.old.occs) }
         ensures made { OnOk result (self.new ≡ spec.joined self.old (spec.one_occ kept.unset_occ)) }
     {
@@ -168,10 +162,11 @@ impl Parts {
     }
 
     pub(crate) fn leave_hidden(&mut self, alloc: Global) -> Result<u32, AllocError>
+        requires { length self.old.hidden < 2 ^ 32 }
         ensures number { IfOk result (λ n. n ≡ length self.old.hidden) }
         ensures made { OnOk result (self.new ≡ spec.joined self.old (spec.one_hidden kept.unset_occ)) }
     {
-        let n = number(self.hidden.len())?;
+        let n = number(self.hidden.len());
         self.hidden.push(unset_occ(alloc))?;
         Ok(n)
     }
@@ -184,10 +179,11 @@ impl Parts {
     }
 
     pub(crate) fn leave_site(&mut self) -> Result<u32, AllocError>
+        requires { length self.old.sites < 2 ^ 32 }
         ensures number { IfOk result (λ n. n ≡ length self.old.sites) }
         ensures made { OnOk result (self.new ≡ spec.joined self.old (spec.one_site kept.unset_site)) }
     {
-        let n = number(self.sites.len())?;
+        let n = number(self.sites.len());
         self.sites.push(SiteInfo {
             block: 0,
             arg: 0,
@@ -204,10 +200,11 @@ impl Parts {
     }
 
     pub(crate) fn leave_choice(&mut self, alloc: Global) -> Result<u32, AllocError>
+        requires { length self.old.choices < 2 ^ 32 }
         ensures number { IfOk result (λ n. n ≡ length self.old.choices) }
         ensures made { OnOk result (self.new ≡ spec.joined self.old (spec.one_choice kept.unset_choice)) }
     {
-        let n = number(self.choices.len())?;
+        let n = number(self.choices.len());
         self.choices.push(Choice {
             block: 0,
             conds: Sequence::from_vec(Vec::new(alloc)),
@@ -224,10 +221,11 @@ impl Parts {
     }
 
     pub(crate) fn leave_automaton(&mut self, alloc: Global) -> Result<u32, AllocError>
+        requires { length self.old.automata < 2 ^ 32 }
         ensures number { IfOk result (λ n. n ≡ length self.old.automata) }
         ensures made { OnOk result (self.new ≡ spec.joined self.old (spec.one_automaton kept.unset_automaton)) }
     {
-        let n = number(self.automata.len())?;
+        let n = number(self.automata.len());
         self.automata.push(Auto {
             block: 0,
             states: Sequence::from_vec(Vec::new(alloc)),

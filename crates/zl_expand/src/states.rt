@@ -1,16 +1,17 @@
 //! The walk of automata.
-#![tactic(auto, using(crate::proofs::WalkLaws::walking))]
+#![tactic(auto, using(crate::proofs::WalkLaws::roomy))]
 
-ghost use Rattle.std.specs.Prelude.{◌≡◌, map, OnOk, IfOk};
+ghost use Rattle.std.specs.Prelude.{◌≡◌, ◌+◌, ◌^◌, ◌<◌, length, map, OnOk, IfOk};
 ghost use Rattle.zl_ast.specs.declared.eqn.State.{out-State};
 ghost use Rattle.zl_flat.specs.Parts.{joined};
 ghost use Rattle.zl_flat.specs.Equations as spec;
 ghost use Rattle.zl_expand.specs.Walks.{Walks};
+ghost use Rattle.zl_expand.specs.Room.{HasRoom};
 ghost use Rattle.zl_expand.specs.Kept.{counters, instance_in, names_in, made_move};
 
 use crate::instance::Instance;
 use crate::name_index::NameIndex;
-use crate::parts::{Parts, next, number};
+use crate::parts::{Parts, number};
 use crate::walker::Walker;
 use std::alloc::{AllocError, Global};
 use zl_ast::{Eqn, Expr, Move, State};
@@ -36,11 +37,8 @@ pub(crate) struct StateBlocks {
 fn state_names(alloc: Global, states: &[State]) -> Result<NameIndex, AllocError>
     ensures { IfOk result (λ names. names ≡ map (λ s. (out-State s).name.id) states.now) }
 {
-    let mut names = NameIndex::new(alloc);
-    for state in states {
-        names.push(state.name.id)?;
-    }
-    Ok(names)
+    let ids = states.iter().map(|state| state.name.id).collect(alloc)?;
+    NameIndex::new(alloc, ids)
 }
 
 /// Where the condition of a move stands: in the guard where the move is by `unless`, else in the body.
@@ -54,12 +52,13 @@ fn condition_place(strong: bool, blocks: StateBlocks, here: Here) -> Here
     }
 }
 
-fn target_number(names: &NameIndex, id: u32) -> Result<u32, AllocError>
-    ensures { IfOk result (λ n. n ≡ spec.index_among names.now id) }
+fn target_number(names: &NameIndex, id: u32) -> u32
+    requires { length names.now < 2 ^ 32 }
+    ensures { result ≡ spec.index_among names.now id }
 {
     match names.find(id) {
         Some(target) => number(target),
-        None => Err(AllocError),
+        None => 0,
     }
 }
 
@@ -76,7 +75,9 @@ impl<
         one: &Move,
         out: &mut Parts,
     ) -> Result<AutoMove, AllocError>
-        requires { Walks self.now.room (X.pre self.now.expr) (X.post self.now.expr) (Q.pre self.now.eqns) (Q.post self.now.eqns) }
+        requires walks { Walks self.now.depth (X.pre self.now.expr) (X.post self.now.expr) (Q.pre self.now.eqns) (Q.post self.now.eqns) }
+        requires room { HasRoom (self.now.depth + 1) instance.now.base out.old (spec.cond_walk instance.now.base (names_in instance.now) (instance_in instance.now) one.now.cond (spec.condition_place one.now.strong blocks.guard blocks.body here) (counters out.old)).parts }
+        requires named { length names.now < 2 ^ 32 }
         ensures made { OnOk result (out.new ≡ joined out.old (spec.cond_walk instance.now.base (names_in instance.now) (instance_in instance.now) one.now.cond (spec.condition_place one.now.strong blocks.guard blocks.body here) (counters out.old)).parts) }
         ensures taken { IfOk result (λ m. m ≡ made_move one.now.strong one.now.reset (spec.cond_walk instance.now.base (names_in instance.now) (instance_in instance.now) one.now.cond (spec.condition_place one.now.strong blocks.guard blocks.body here) (counters out.old)).test (spec.index_among names.now one.now.target.id)) }
     {
@@ -86,7 +87,7 @@ impl<
             strong: one.strong,
             reset: one.reset,
             cond,
-            target: target_number(names, one.target.id)?,
+            target: target_number(names, one.target.id),
         })
     }
 
@@ -99,7 +100,9 @@ impl<
         moves: &[Move],
         out: &mut Parts,
     ) -> Result<Vec<AutoMove>, AllocError>
-        requires { Walks self.now.room (X.pre self.now.expr) (X.post self.now.expr) (Q.pre self.now.eqns) (Q.post self.now.eqns) }
+        requires walks { Walks self.now.depth (X.pre self.now.expr) (X.post self.now.expr) (Q.pre self.now.eqns) (Q.post self.now.eqns) }
+        requires room { HasRoom (self.now.depth + 1) instance.now.base out.old (spec.moves_made instance.now.base (names_in instance.now) (instance_in instance.now) (map (spec.move_walk instance.now.base (names_in instance.now) (instance_in instance.now)) moves.now) blocks.guard blocks.body names.now here (counters out.old)).parts }
+        requires named { length names.now < 2 ^ 32 }
         ensures made { OnOk result (out.new ≡ joined out.old (spec.moves_made instance.now.base (names_in instance.now) (instance_in instance.now) (map (spec.move_walk instance.now.base (names_in instance.now) (instance_in instance.now)) moves.now) blocks.guard blocks.body names.now here (counters out.old)).parts) }
         ensures moves { IfOk result (λ m. m.items ≡ (spec.moves_made instance.now.base (names_in instance.now) (instance_in instance.now) (map (spec.move_walk instance.now.base (names_in instance.now) (instance_in instance.now)) moves.now) blocks.guard blocks.body names.now here (counters out.old)).moves) }
     {
@@ -119,7 +122,9 @@ impl<
         state: &State,
         out: &mut Parts,
     ) -> Result<Vec<AutoMove>, AllocError>
-        requires { Walks self.now.room (X.pre self.now.expr) (X.post self.now.expr) (Q.pre self.now.eqns) (Q.post self.now.eqns) }
+        requires walks { Walks self.now.depth (X.pre self.now.expr) (X.post self.now.expr) (Q.pre self.now.eqns) (Q.post self.now.eqns) }
+        requires room { HasRoom (self.now.depth + 1) instance.now.base out.old ((spec.one_state_walk instance.now.base (names_in instance.now) (instance_in instance.now) state.now).walk among.automaton among.state among.names.now here (counters out.old)).parts }
+        requires named { length among.names.now < 2 ^ 32 }
         ensures made { OnOk result (out.new ≡ joined out.old ((spec.one_state_walk instance.now.base (names_in instance.now) (instance_in instance.now) state.now).walk among.entry.automaton among.entry.state among.entry.names.now here (counters out.old)).parts) }
         ensures moves { IfOk result (λ m. m.items ≡ ((spec.one_state_walk instance.now.base (names_in instance.now) (instance_in instance.now) state.now).walk among.entry.automaton among.entry.state among.entry.names.now here (counters out.old)).moves) }
     {
@@ -148,7 +153,8 @@ impl<
         states: &[State],
         out: &mut Parts,
     ) -> Result<Vec<Sequence<AutoMove>>, AllocError>
-        requires { Walks self.now.room (X.pre self.now.expr) (X.post self.now.expr) (Q.pre self.now.eqns) (Q.post self.now.eqns) }
+        requires walks { Walks self.now.depth (X.pre self.now.expr) (X.post self.now.expr) (Q.pre self.now.eqns) (Q.post self.now.eqns) }
+        requires room { HasRoom (self.now.depth + 1) instance.now.base out.old (spec.states_made (map (spec.one_state_walk instance.now.base (names_in instance.now) (instance_in instance.now)) states.now) of 0 (map (λ s. (out-State s).name.id) states.now) here (counters out.old)).parts }
         ensures made { OnOk result (out.new ≡ joined out.old (spec.states_made (map (spec.one_state_walk instance.now.base (names_in instance.now) (instance_in instance.now)) states.now) of 0 (map (λ s. (out-State s).name.id) states.now) here (counters out.old)).parts) }
         ensures states { IfOk result (λ m. m.items ≡ (spec.states_made (map (spec.one_state_walk instance.now.base (names_in instance.now) (instance_in instance.now)) states.now) of 0 (map (λ s. (out-State s).name.id) states.now) here (counters out.old)).states) }
     {
@@ -163,7 +169,7 @@ impl<
             };
             let moves = self.walk_state(instance, here, among, state, out)?;
             made.push(Sequence::from_vec(moves))?;
-            state_number = next(state_number)?;
+            state_number += 1;
         }
         Ok(made)
     }
@@ -175,7 +181,8 @@ impl<
         states: &[State],
         out: &mut Parts,
     ) -> Result<(), AllocError>
-        requires { Walks self.now.room (X.pre self.now.expr) (X.post self.now.expr) (Q.pre self.now.eqns) (Q.post self.now.eqns) }
+        requires walks { Walks self.now.depth (X.pre self.now.expr) (X.post self.now.expr) (Q.pre self.now.eqns) (Q.post self.now.eqns) }
+        requires room { HasRoom (self.now.depth + 1) instance.now.base out.old (spec.automaton instance.now.base (names_in instance.now) (instance_in instance.now) (map (spec.one_state_walk instance.now.base (names_in instance.now) (instance_in instance.now)) states.now) here (counters out.old)) }
         ensures { OnOk result (out.new ≡ joined out.old (spec.automaton instance.now.base (names_in instance.now) (instance_in instance.now) (map (spec.one_state_walk instance.now.base (names_in instance.now) (instance_in instance.now)) states.now) here (counters out.old))) }
     {
         let of = out.leave_automaton(self.alloc)?;

@@ -42,10 +42,12 @@ fn give(lists: &mut Vec<Vec<Definer>>, given: Given) -> Result<(), AllocError>
     ensures { OnOk result (map (λ ds. ds.items) lists.new.items ≡ spec.given_more (map (λ ds. ds.items) lists.old.items) given.place given.definer) }
 {
     match lists.get_mut(given.place as usize) {
-        Some(list) => list.push(given.definer)?,
-        None => return Err(AllocError),
+        Some(list) => {
+            list.push(given.definer)?;
+            Ok(())
+        }
+        None => Ok(()),
     }
-    Ok(())
 }
 
 /// The definers of each place, in the order of the walk.
@@ -75,7 +77,7 @@ fn with_lists(
     let mut rest = lists.into_iter();
     for place in places {
         let Some(definers) = rest.next() else {
-            return Err(AllocError);
+            return Ok(defined);
         };
         defined.push(PlaceInfo {
             block: place.block,

@@ -1,11 +1,12 @@
 //! The walk of conditions.
-#![tactic(auto, using(crate::proofs::WalkLaws::walking))]
+#![tactic(auto, using(crate::proofs::WalkLaws::roomy))]
 
-ghost use Rattle.std.specs.Prelude.{◌≡◌, map, OnOk, IfOk};
+ghost use Rattle.std.specs.Prelude.{◌≡◌, ◌+◌, map, OnOk, IfOk};
 ghost use Rattle.zl_flat.specs.Parts.{joined};
 ghost use Rattle.zl_flat.specs.Equations as spec;
 ghost use Rattle.zl_flat.specs.Equations.{up_walk, event_walk, cond_walk};
 ghost use Rattle.zl_expand.specs.Walks.{Walks};
+ghost use Rattle.zl_expand.specs.Room.{HasRoom};
 ghost use Rattle.zl_expand.specs.Kept.{counters, instance_in, names_in};
 
 use crate::instance::Instance;
@@ -40,11 +41,12 @@ impl<
         up: &Up,
         out: &mut Parts,
     ) -> Result<u32, AllocError>
-        requires { Walks self.now.room (X.pre self.now.expr) (X.post self.now.expr) (Q.pre self.now.eqns) (Q.post self.now.eqns) }
+        requires walks { Walks self.now.depth (X.pre self.now.expr) (X.post self.now.expr) (Q.pre self.now.eqns) (Q.post self.now.eqns) }
+        requires room { HasRoom (self.now.depth + 1) instance.now.base out.old (up_walk instance.now.base (names_in instance.now) (instance_in instance.now) up.now here (counters out.old)).parts }
         ensures made { OnOk result (out.new ≡ joined out.old (up_walk instance.now.base (names_in instance.now) (instance_in instance.now) up.now here (counters out.old)).parts) }
         ensures test { IfOk result (λ k. k ≡ (up_walk instance.now.base (names_in instance.now) (instance_in instance.now) up.now here (counters out.old)).test) }
     {
-        let next_site = out.next_site()?;
+        let next_site = out.next_site();
         let occ = out.add_occ(here.occ(Ty::Zero, up.at, Form::Up(next_site)))?;
         let site = out.leave_site()?;
         let arg = self.expr(instance, here, &up.arg, out)?;
@@ -59,7 +61,8 @@ impl<
         ups: &[Up],
         out: &mut Parts,
     ) -> Result<Vec<u32>, AllocError>
-        requires { Walks self.now.room (X.pre self.now.expr) (X.post self.now.expr) (Q.pre self.now.eqns) (Q.post self.now.eqns) }
+        requires walks { Walks self.now.depth (X.pre self.now.expr) (X.post self.now.expr) (Q.pre self.now.eqns) (Q.post self.now.eqns) }
+        requires room { HasRoom (self.now.depth + 1) instance.now.base out.old (spec.test_all (map (up_walk instance.now.base (names_in instance.now) (instance_in instance.now)) ups.now) here (counters out.old)).parts }
         ensures made { OnOk result (out.new ≡ joined out.old (spec.test_all (map (up_walk instance.now.base (names_in instance.now) (instance_in instance.now)) ups.now) here (counters out.old)).parts) }
         ensures tests { IfOk result (λ ks. ks.items ≡ (spec.test_all (map (up_walk instance.now.base (names_in instance.now) (instance_in instance.now)) ups.now) here (counters out.old)).tests) }
     {
@@ -78,7 +81,8 @@ impl<
         ups: &[Up],
         out: &mut Parts,
     ) -> Result<u32, AllocError>
-        requires { Walks self.now.room (X.pre self.now.expr) (X.post self.now.expr) (Q.pre self.now.eqns) (Q.post self.now.eqns) }
+        requires walks { Walks self.now.depth (X.pre self.now.expr) (X.post self.now.expr) (Q.pre self.now.eqns) (Q.post self.now.eqns) }
+        requires room { HasRoom (self.now.depth + 1) instance.now.base out.old (event_walk instance.now.base (names_in instance.now) (instance_in instance.now) ups.now here (counters out.old)).parts }
         ensures made { OnOk result (out.new ≡ joined out.old (event_walk instance.now.base (names_in instance.now) (instance_in instance.now) ups.now here (counters out.old)).parts) }
         ensures test { IfOk result (λ k. k ≡ (event_walk instance.now.base (names_in instance.now) (instance_in instance.now) ups.now here (counters out.old)).test) }
     {
@@ -86,7 +90,7 @@ impl<
         let tests = self.walk_ups(instance, here, ups, out)?;
         let form = Form::Fired(Sequence::from_vec(tests));
         out.set_hidden(hidden, here.occ(Ty::Bool, first_at(ups), form));
-        hidden_number(instance, hidden)
+        Ok(hidden_number(instance, hidden))
     }
 
     pub(crate) fn walk_cond(
@@ -96,7 +100,8 @@ impl<
         cond: &Cond,
         out: &mut Parts,
     ) -> Result<u32, AllocError>
-        requires { Walks self.now.room (X.pre self.now.expr) (X.post self.now.expr) (Q.pre self.now.eqns) (Q.post self.now.eqns) }
+        requires walks { Walks self.now.depth (X.pre self.now.expr) (X.post self.now.expr) (Q.pre self.now.eqns) (Q.post self.now.eqns) }
+        requires room { HasRoom (self.now.depth + 1) instance.now.base out.old (cond_walk instance.now.base (names_in instance.now) (instance_in instance.now) cond.now here (counters out.old)).parts }
         ensures made { OnOk result (out.new ≡ joined out.old (cond_walk instance.now.base (names_in instance.now) (instance_in instance.now) cond.now here (counters out.old)).parts) }
         ensures test { IfOk result (λ k. k ≡ (cond_walk instance.now.base (names_in instance.now) (instance_in instance.now) cond.now here (counters out.old)).test) }
     {

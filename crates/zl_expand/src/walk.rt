@@ -1,17 +1,20 @@
 //! The walk of expressions, and of the copies that calls make.
-#![tactic(auto, using(crate::proofs::WalkLaws::walking))]
+#![tactic(auto, using(crate::proofs::WalkLaws::roomy))]
 
-ghost use Rattle.std.specs.Prelude.{◌≡◌, ◌+◌, ◌<◌, [], ◌∷◌, map, length, Some, OnOk, IfOk};
+ghost use Rattle.std.specs.Prelude.{true, ◌≡◌, ◌+◌, ◌^◌, ◌<◌, [], ◌∷◌, map, length, Some, OnOk, IfOk};
 ghost use Rattle.zl_flat.specs.Parts.{joined};
-ghost use Rattle.zl_flat.specs.Instances.{root_occs};
+ghost use Rattle.zl_flat.specs.Instances.{first_root, root_occs};
 ghost use Rattle.zl_flat.specs.Expressions as spec;
 ghost use Rattle.zl_flat.specs.Operators.{prefix_form, built_in_op};
 ghost use Rattle.zl_flat.specs.Variables.{variable_of};
 ghost use Rattle.zl_flat.specs.Expressions.{expr_walk, link_walk};
 ghost use Rattle.zl_expand.specs.Walks.{Walks};
+ghost use Rattle.zl_expand.specs.Room.{HasRoom};
+ghost use Rattle.zl_expand.specs.Linked.{is_linked};
 ghost use Rattle.zl_expand.specs.Kept.{counters, instance_in, names_in};
 
 use crate::instance::Instance;
+use crate::linked::unlinked;
 use crate::operators::{built_in_op, infix_form, prefix_type, result_type, value_type};
 use crate::parts::Parts;
 use crate::walker::Walker;
@@ -29,6 +32,7 @@ pub(crate) struct Called {
 }
 
 fn leaf(here: Here, ty: Ty, at: Pos, form: Form, out: &mut Parts) -> Result<Root, AllocError>
+    requires { length out.old.occs < 2 ^ 32 }
     ensures made { OnOk result (out.new ≡ joined out.old (spec.leaf here ty at form (counters out.old)).parts) }
     ensures root { IfOk result (λ r. r ≡ (spec.leaf here ty at form (counters out.old)).root) }
 {
@@ -60,6 +64,14 @@ fn root_occs(alloc: Global, roots: &[Root]) -> Result<Sequence<u32>, AllocError>
     Ok(Sequence::from_vec(ks))
 }
 
+fn one_root(alloc: Global, root: Root) -> Result<Vec<Root>, AllocError>
+    ensures { IfOk result (λ roots. roots.items ≡ root ∷ []) }
+{
+    let mut roots = Vec::new(alloc);
+    roots.push(root)?;
+    Ok(roots)
+}
+
 fn prefix_form(alloc: Global, op: Prefix, k: u32) -> Result<Form, AllocError>
     ensures { IfOk result (λ form. form ≡ prefix_form op k) }
 {
@@ -71,14 +83,25 @@ fn prefix_form(alloc: Global, op: Prefix, k: u32) -> Result<Form, AllocError>
     }
 }
 
-/// The number of a hidden occurrence, of which this is the number among the hidden ones.
-pub(crate) fn hidden_number(instance: &Instance, hidden: u32) -> Result<u32, AllocError>
-    ensures { IfOk result (λ n. n ≡ instance.now.base + hidden) }
+/// The first of these results.
+fn first_root(roots: &[Root]) -> Root
+    ensures { result ≡ first_root roots.now }
 {
-    match instance.base.checked_add(hidden) {
-        Some(n) => Ok(n),
-        None => Err(AllocError),
+    match roots.first() {
+        Some(first) => *first,
+        None => Root {
+            occ: 0,
+            ty: Ty::Int,
+        },
     }
+}
+
+/// The number of a hidden occurrence, of which this is the number among the hidden ones.
+pub(crate) fn hidden_number(instance: &Instance, hidden: u32) -> u32
+    requires { instance.now.base + hidden < 2 ^ 32 }
+    ensures { result ≡ instance.now.base + hidden }
+{
+    instance.base + hidden
 }
 
 impl<
@@ -93,7 +116,25 @@ impl<
         expr: &Expr,
         out: &mut Parts,
     ) -> Result<Root, AllocError>
-        requires { Walks self.now.room (X.pre self.now.expr) (X.post self.now.expr) (Q.pre self.now.eqns) (Q.post self.now.eqns) }
+        requires walks { Walks self.now.depth (X.pre self.now.expr) (X.post self.now.expr) (Q.pre self.now.eqns) (Q.post self.now.eqns) }
+        requires room { HasRoom self.now.depth instance.now.base out.old (expr_walk instance.now.base (names_in instance.now) (instance_in instance.now) expr.now here (counters out.old)).parts }
+        ensures made { OnOk result (out.new ≡ joined out.old (expr_walk instance.now.base (names_in instance.now) (instance_in instance.now) expr.now here (counters out.old)).parts) }
+        ensures root { IfOk result (λ r. r ≡ (expr_walk instance.now.base (names_in instance.now) (instance_in instance.now) expr.now here (counters out.old)).root) }
+    {
+        self.walk_linked(instance, here, unlinked(expr), out)
+    }
+
+    /// Makes an expression that is no chain of no operator.
+    fn walk_linked(
+        &self,
+        instance: &Instance,
+        here: Here,
+        expr: &Expr,
+        out: &mut Parts,
+    ) -> Result<Root, AllocError>
+        requires walks { Walks self.now.depth (X.pre self.now.expr) (X.post self.now.expr) (Q.pre self.now.eqns) (Q.post self.now.eqns) }
+        requires room { HasRoom self.now.depth instance.now.base out.old (expr_walk instance.now.base (names_in instance.now) (instance_in instance.now) expr.now here (counters out.old)).parts }
+        requires linked { is_linked expr.now ≡ true }
         ensures made { OnOk result (out.new ≡ joined out.old (expr_walk instance.now.base (names_in instance.now) (instance_in instance.now) expr.now here (counters out.old)).parts) }
         ensures root { IfOk result (λ r. r ≡ (expr_walk instance.now.base (names_in instance.now) (instance_in instance.now) expr.now here (counters out.old)).root) }
     {
@@ -102,7 +143,7 @@ impl<
             Expr::Var(name) => self.walk_name(instance, here, *name, out),
             Expr::Last { name, at } => match instance.variable(name.id) {
                 Some(x) => leaf(here, x.ty, *at, Form::Last(x.place), out),
-                None => Err(AllocError),
+                None => leaf(here, Ty::Int, *at, Form::Last(0), out),
             },
             Expr::Call { name, args } => {
                 self.walk_function(instance, here, *name, args.as_slice(), out)
@@ -133,7 +174,8 @@ impl<
         name: Name,
         out: &mut Parts,
     ) -> Result<Root, AllocError>
-        requires { Walks self.now.room (X.pre self.now.expr) (X.post self.now.expr) (Q.pre self.now.eqns) (Q.post self.now.eqns) }
+        requires walks { Walks self.now.depth (X.pre self.now.expr) (X.post self.now.expr) (Q.pre self.now.eqns) (Q.post self.now.eqns) }
+        requires room { HasRoom self.now.depth instance.now.base out.old (spec.read instance.now.base (names_in instance.now) (instance_in instance.now) (variable_of (instance_in instance.now).variables name.id) name here (counters out.old)).parts }
         ensures made { OnOk result (out.new ≡ joined out.old (spec.read instance.now.base (names_in instance.now) (instance_in instance.now) (variable_of (instance_in instance.now).variables name.id) name here (counters out.old)).parts) }
         ensures root { IfOk result (λ r. r ≡ (spec.read instance.now.base (names_in instance.now) (instance_in instance.now) (variable_of (instance_in instance.now).variables name.id) name here (counters out.old)).root) }
     {
@@ -154,7 +196,8 @@ impl<
         args: &[Expr],
         out: &mut Parts,
     ) -> Result<Root, AllocError>
-        requires { Walks self.now.room (X.pre self.now.expr) (X.post self.now.expr) (Q.pre self.now.eqns) (Q.post self.now.eqns) }
+        requires walks { Walks self.now.depth (X.pre self.now.expr) (X.post self.now.expr) (Q.pre self.now.eqns) (Q.post self.now.eqns) }
+        requires room { HasRoom self.now.depth instance.now.base out.old (spec.call_or_built_in instance.now.base (names_in instance.now) (instance_in instance.now) (built_in_op (names_in instance.now) name.id) name (map (expr_walk instance.now.base (names_in instance.now) (instance_in instance.now)) args.now) here (counters out.old)).parts }
         ensures made { OnOk result (out.new ≡ joined out.old (spec.call_or_built_in instance.now.base (names_in instance.now) (instance_in instance.now) (built_in_op (names_in instance.now) name.id) name (map (expr_walk instance.now.base (names_in instance.now) (instance_in instance.now)) args.now) here (counters out.old)).parts) }
         ensures root { IfOk result (λ r. r ≡ (spec.call_or_built_in instance.now.base (names_in instance.now) (instance_in instance.now) (built_in_op (names_in instance.now) name.id) name (map (expr_walk instance.now.base (names_in instance.now) (instance_in instance.now)) args.now) here (counters out.old)).root) }
     {
@@ -183,7 +226,8 @@ impl<
         args: &[Expr],
         out: &mut Parts,
     ) -> Result<Called, AllocError>
-        requires { Walks self.now.room (X.pre self.now.expr) (X.post self.now.expr) (Q.pre self.now.eqns) (Q.post self.now.eqns) }
+        requires walks { Walks self.now.depth (X.pre self.now.expr) (X.post self.now.expr) (Q.pre self.now.eqns) (Q.post self.now.eqns) }
+        requires room { HasRoom self.now.depth instance.now.base out.old (spec.call instance.now.base (names_in instance.now) (instance_in instance.now) name (map (expr_walk instance.now.base (names_in instance.now) (instance_in instance.now)) args.now) here (counters out.old)).parts }
         ensures made { OnOk result (out.new ≡ joined out.old (spec.call instance.now.base (names_in instance.now) (instance_in instance.now) name (map (expr_walk instance.now.base (names_in instance.now) (instance_in instance.now)) args.now) here (counters out.old)).parts) }
         ensures root { IfOk result (λ r. r.root ≡ (spec.call instance.now.base (names_in instance.now) (instance_in instance.now) name (map (expr_walk instance.now.base (names_in instance.now) (instance_in instance.now)) args.now) here (counters out.old)).root) }
         ensures results { IfOk result (λ r. r.results.items ≡ (spec.call instance.now.base (names_in instance.now) (instance_in instance.now) name (map (expr_walk instance.now.base (names_in instance.now) (instance_in instance.now)) args.now) here (counters out.old)).results) }
@@ -192,15 +236,91 @@ impl<
         let inside = here.in_call(occ);
         let arguments = self.walk_exprs(instance, inside, args, out)?;
         let results = self.copy(instance, inside, name.id, arguments.as_slice(), out)?;
-        let first = match results.first() {
-            Some(first) => *first,
-            None => return Err(AllocError),
-        };
+        let first = first_root(results.as_slice());
         out.set_occ(occ, here.occ(first.ty, name.at, Form::Result(first.occ)));
         Ok(Called {
             root: Root { occ, ty: first.ty },
             results,
         })
+    }
+
+    /// The results of a name that is read.
+    fn name_results(
+        &self,
+        instance: &Instance,
+        here: Here,
+        name: Name,
+        out: &mut Parts,
+    ) -> Result<Vec<Root>, AllocError>
+        requires walks { Walks self.now.depth (X.pre self.now.expr) (X.post self.now.expr) (Q.pre self.now.eqns) (Q.post self.now.eqns) }
+        requires room { HasRoom self.now.depth instance.now.base out.old (spec.read instance.now.base (names_in instance.now) (instance_in instance.now) (variable_of (instance_in instance.now).variables name.id) name here (counters out.old)).parts }
+        ensures made { OnOk result (out.new ≡ joined out.old (spec.read instance.now.base (names_in instance.now) (instance_in instance.now) (variable_of (instance_in instance.now).variables name.id) name here (counters out.old)).parts) }
+        ensures results { IfOk result (λ r. r.items ≡ (spec.read instance.now.base (names_in instance.now) (instance_in instance.now) (variable_of (instance_in instance.now).variables name.id) name here (counters out.old)).results) }
+    {
+        match instance.variable(name.id) {
+            Some(x) => one_root(
+                self.alloc,
+                leaf(here, x.ty, name.at, Form::Read(x.place), out)?,
+            ),
+            None => {
+                let called = self.walk_call(instance, here, name, &[], out)?;
+                Ok(called.results)
+            }
+        }
+    }
+
+    /// The results of a function that is called.
+    fn function_results(
+        &self,
+        instance: &Instance,
+        here: Here,
+        name: Name,
+        args: &[Expr],
+        out: &mut Parts,
+    ) -> Result<Vec<Root>, AllocError>
+        requires walks { Walks self.now.depth (X.pre self.now.expr) (X.post self.now.expr) (Q.pre self.now.eqns) (Q.post self.now.eqns) }
+        requires room { HasRoom self.now.depth instance.now.base out.old (spec.call_or_built_in instance.now.base (names_in instance.now) (instance_in instance.now) (built_in_op (names_in instance.now) name.id) name (map (expr_walk instance.now.base (names_in instance.now) (instance_in instance.now)) args.now) here (counters out.old)).parts }
+        ensures made { OnOk result (out.new ≡ joined out.old (spec.call_or_built_in instance.now.base (names_in instance.now) (instance_in instance.now) (built_in_op (names_in instance.now) name.id) name (map (expr_walk instance.now.base (names_in instance.now) (instance_in instance.now)) args.now) here (counters out.old)).parts) }
+        ensures results { IfOk result (λ r. r.items ≡ (spec.call_or_built_in instance.now.base (names_in instance.now) (instance_in instance.now) (built_in_op (names_in instance.now) name.id) name (map (expr_walk instance.now.base (names_in instance.now) (instance_in instance.now)) args.now) here (counters out.old)).results) }
+    {
+        match built_in_op(instance.known.declared.names, name.id) {
+            Some(_) => one_root(
+                self.alloc,
+                self.walk_function(instance, here, name, args, out)?,
+            ),
+            None => {
+                let called = self.walk_call(instance, here, name, args, out)?;
+                Ok(called.results)
+            }
+        }
+    }
+
+    /// Makes an expression, and answers its results: those of the call that it is, else itself.
+    #[tactic(auto, using(crate::proofs::AloneLemmas::alone))]
+    pub(crate) fn walk_results(
+        &self,
+        instance: &Instance,
+        here: Here,
+        expr: &Expr,
+        out: &mut Parts,
+    ) -> Result<Vec<Root>, AllocError>
+        requires walks { Walks self.now.depth (X.pre self.now.expr) (X.post self.now.expr) (Q.pre self.now.eqns) (Q.post self.now.eqns) }
+        requires room { HasRoom (self.now.depth + 1) instance.now.base out.old (expr_walk instance.now.base (names_in instance.now) (instance_in instance.now) expr.now here (counters out.old)).parts }
+        ensures made { OnOk result (out.new ≡ joined out.old (expr_walk instance.now.base (names_in instance.now) (instance_in instance.now) expr.now here (counters out.old)).parts) }
+        ensures results { IfOk result (λ r. r.items ≡ (expr_walk instance.now.base (names_in instance.now) (instance_in instance.now) expr.now here (counters out.old)).results) }
+    {
+        match expr {
+            Expr::Var(name) => self.name_results(instance, here, *name, out),
+            Expr::Call { name, args } => {
+                self.function_results(instance, here, *name, args.as_slice(), out)
+            }
+            Expr::Lit { .. }
+            | Expr::Last { .. }
+            | Expr::Prefix { .. }
+            | Expr::Chain { .. }
+            | Expr::Flow { .. }
+            | Expr::If { .. } => one_root(self.alloc, self.expr(instance, here, expr, out)?),
+        }
     }
 
     pub(crate) fn walk_exprs(
@@ -210,7 +330,8 @@ impl<
         exprs: &[Expr],
         out: &mut Parts,
     ) -> Result<Vec<Root>, AllocError>
-        requires { Walks self.now.room (X.pre self.now.expr) (X.post self.now.expr) (Q.pre self.now.eqns) (Q.post self.now.eqns) }
+        requires walks { Walks self.now.depth (X.pre self.now.expr) (X.post self.now.expr) (Q.pre self.now.eqns) (Q.post self.now.eqns) }
+        requires room { HasRoom (self.now.depth + 1) instance.now.base out.old (spec.walk_all (map (expr_walk instance.now.base (names_in instance.now) (instance_in instance.now)) exprs.now) here (counters out.old)).parts }
         ensures made { OnOk result (out.new ≡ joined out.old (spec.walk_all (map (expr_walk instance.now.base (names_in instance.now) (instance_in instance.now)) exprs.now) here (counters out.old)).parts) }
         ensures roots { IfOk result (λ r. r.items ≡ (spec.walk_all (map (expr_walk instance.now.base (names_in instance.now) (instance_in instance.now)) exprs.now) here (counters out.old)).roots) }
     {
@@ -230,7 +351,8 @@ impl<
         arg: &Expr,
         out: &mut Parts,
     ) -> Result<Root, AllocError>
-        requires { Walks self.now.room (X.pre self.now.expr) (X.post self.now.expr) (Q.pre self.now.eqns) (Q.post self.now.eqns) }
+        requires walks { Walks self.now.depth (X.pre self.now.expr) (X.post self.now.expr) (Q.pre self.now.eqns) (Q.post self.now.eqns) }
+        requires room { HasRoom self.now.depth instance.now.base out.old (spec.prefixed instance.now.base (names_in instance.now) (instance_in instance.now) op at (expr_walk instance.now.base (names_in instance.now) (instance_in instance.now) arg.now) here (counters out.old)).parts }
         ensures made { OnOk result (out.new ≡ joined out.old (spec.prefixed instance.now.base (names_in instance.now) (instance_in instance.now) op at (expr_walk instance.now.base (names_in instance.now) (instance_in instance.now) arg.now) here (counters out.old)).parts) }
         ensures root { IfOk result (λ r. r ≡ (spec.prefixed instance.now.base (names_in instance.now) (instance_in instance.now) op at (expr_walk instance.now.base (names_in instance.now) (instance_in instance.now) arg.now) here (counters out.old)).root) }
     {
@@ -250,7 +372,9 @@ impl<
         rest: &[Link],
         out: &mut Parts,
     ) -> Result<Root, AllocError>
-        requires { Walks self.now.room (X.pre self.now.expr) (X.post self.now.expr) (Q.pre self.now.eqns) (Q.post self.now.eqns) }
+        requires walks { Walks self.now.depth (X.pre self.now.expr) (X.post self.now.expr) (Q.pre self.now.eqns) (Q.post self.now.eqns) }
+        requires room { HasRoom self.now.depth instance.now.base out.old (spec.chain (expr_walk instance.now.base (names_in instance.now) (instance_in instance.now) first.now) (map (link_walk instance.now.base (names_in instance.now) (instance_in instance.now)) rest.now) here (counters out.old)).parts }
+        requires linked { 0 < length rest.now }
         ensures made { OnOk result (out.new ≡ joined out.old (spec.chain (expr_walk instance.now.base (names_in instance.now) (instance_in instance.now) first.now) (map (link_walk instance.now.base (names_in instance.now) (instance_in instance.now)) rest.now) here (counters out.old)).parts) }
         ensures root { IfOk result (λ r. r ≡ (spec.chain (expr_walk instance.now.base (names_in instance.now) (instance_in instance.now) first.now) (map (link_walk instance.now.base (names_in instance.now) (instance_in instance.now)) rest.now) here (counters out.old)).root) }
     {
@@ -269,7 +393,8 @@ impl<
         link: &Link,
         out: &mut Parts,
     ) -> Result<Root, AllocError>
-        requires { Walks self.now.room (X.pre self.now.expr) (X.post self.now.expr) (Q.pre self.now.eqns) (Q.post self.now.eqns) }
+        requires walks { Walks self.now.depth (X.pre self.now.expr) (X.post self.now.expr) (Q.pre self.now.eqns) (Q.post self.now.eqns) }
+        requires room { HasRoom self.now.depth instance.now.base out.old (link_walk instance.now.base (names_in instance.now) (instance_in instance.now) link.now here left (counters out.old)).parts }
         ensures made { OnOk result (out.new ≡ joined out.old (link_walk instance.now.base (names_in instance.now) (instance_in instance.now) link.now here left (counters out.old)).parts) }
         ensures root { IfOk result (λ r. r ≡ (link_walk instance.now.base (names_in instance.now) (instance_in instance.now) link.now here left (counters out.old)).root) }
     {
@@ -292,7 +417,8 @@ impl<
         right: &Expr,
         out: &mut Parts,
     ) -> Result<Root, AllocError>
-        requires { Walks self.now.room (X.pre self.now.expr) (X.post self.now.expr) (Q.pre self.now.eqns) (Q.post self.now.eqns) }
+        requires walks { Walks self.now.depth (X.pre self.now.expr) (X.post self.now.expr) (Q.pre self.now.eqns) (Q.post self.now.eqns) }
+        requires room { HasRoom self.now.depth instance.now.base out.old (spec.flow_walk instance.now.base (names_in instance.now) (instance_in instance.now) op at (expr_walk instance.now.base (names_in instance.now) (instance_in instance.now) left.now) (expr_walk instance.now.base (names_in instance.now) (instance_in instance.now) right.now) here (counters out.old)).parts }
         ensures made { OnOk result (out.new ≡ joined out.old (spec.flow_walk instance.now.base (names_in instance.now) (instance_in instance.now) op at (expr_walk instance.now.base (names_in instance.now) (instance_in instance.now) left.now) (expr_walk instance.now.base (names_in instance.now) (instance_in instance.now) right.now) here (counters out.old)).parts) }
         ensures root { IfOk result (λ r. r ≡ (spec.flow_walk instance.now.base (names_in instance.now) (instance_in instance.now) op at (expr_walk instance.now.base (names_in instance.now) (instance_in instance.now) left.now) (expr_walk instance.now.base (names_in instance.now) (instance_in instance.now) right.now) here (counters out.old)).root) }
     {
@@ -311,7 +437,8 @@ impl<
         right: &Expr,
         out: &mut Parts,
     ) -> Result<Root, AllocError>
-        requires { Walks self.now.room (X.pre self.now.expr) (X.post self.now.expr) (Q.pre self.now.eqns) (Q.post self.now.eqns) }
+        requires walks { Walks self.now.depth (X.pre self.now.expr) (X.post self.now.expr) (Q.pre self.now.eqns) (Q.post self.now.eqns) }
+        requires room { HasRoom self.now.depth instance.now.base out.old (spec.arrow instance.now.base (names_in instance.now) (instance_in instance.now) at (expr_walk instance.now.base (names_in instance.now) (instance_in instance.now) left.now) (expr_walk instance.now.base (names_in instance.now) (instance_in instance.now) right.now) here (counters out.old)).parts }
         ensures made { OnOk result (out.new ≡ joined out.old (spec.arrow instance.now.base (names_in instance.now) (instance_in instance.now) at (expr_walk instance.now.base (names_in instance.now) (instance_in instance.now) left.now) (expr_walk instance.now.base (names_in instance.now) (instance_in instance.now) right.now) here (counters out.old)).parts) }
         ensures root { IfOk result (λ r. r ≡ (spec.arrow instance.now.base (names_in instance.now) (instance_in instance.now) at (expr_walk instance.now.base (names_in instance.now) (instance_in instance.now) left.now) (expr_walk instance.now.base (names_in instance.now) (instance_in instance.now) right.now) here (counters out.old)).root) }
     {
@@ -333,7 +460,8 @@ impl<
         right: &Expr,
         out: &mut Parts,
     ) -> Result<Root, AllocError>
-        requires { Walks self.now.room (X.pre self.now.expr) (X.post self.now.expr) (Q.pre self.now.eqns) (Q.post self.now.eqns) }
+        requires walks { Walks self.now.depth (X.pre self.now.expr) (X.post self.now.expr) (Q.pre self.now.eqns) (Q.post self.now.eqns) }
+        requires room { HasRoom self.now.depth instance.now.base out.old (spec.followed instance.now.base (names_in instance.now) (instance_in instance.now) at (expr_walk instance.now.base (names_in instance.now) (instance_in instance.now) left.now) (expr_walk instance.now.base (names_in instance.now) (instance_in instance.now) right.now) here (counters out.old)).parts }
         ensures made { OnOk result (out.new ≡ joined out.old (spec.followed instance.now.base (names_in instance.now) (instance_in instance.now) at (expr_walk instance.now.base (names_in instance.now) (instance_in instance.now) left.now) (expr_walk instance.now.base (names_in instance.now) (instance_in instance.now) right.now) here (counters out.old)).parts) }
         ensures root { IfOk result (λ r. r ≡ (spec.followed instance.now.base (names_in instance.now) (instance_in instance.now) at (expr_walk instance.now.base (names_in instance.now) (instance_in instance.now) left.now) (expr_walk instance.now.base (names_in instance.now) (instance_in instance.now) right.now) here (counters out.old)).root) }
     {
@@ -341,7 +469,7 @@ impl<
         let occ = out.leave_occ(self.alloc)?;
         let hidden = out.leave_hidden(self.alloc)?;
         let right = self.expr(instance, here, right, out)?;
-        let pre = hidden_number(instance, hidden)?;
+        let pre = hidden_number(instance, hidden);
         out.set_occ(occ, here.occ(left.ty, at, Form::Arrow(left.occ, pre)));
         out.set_hidden(hidden, here.occ(left.ty, at, Form::Pre(right.occ)));
         Ok(Root { occ, ty: left.ty })
@@ -357,7 +485,8 @@ impl<
         no: &Expr,
         out: &mut Parts,
     ) -> Result<Root, AllocError>
-        requires { Walks self.now.room (X.pre self.now.expr) (X.post self.now.expr) (Q.pre self.now.eqns) (Q.post self.now.eqns) }
+        requires walks { Walks self.now.depth (X.pre self.now.expr) (X.post self.now.expr) (Q.pre self.now.eqns) (Q.post self.now.eqns) }
+        requires room { HasRoom self.now.depth instance.now.base out.old (spec.conditional instance.now.base (names_in instance.now) (instance_in instance.now) at (expr_walk instance.now.base (names_in instance.now) (instance_in instance.now) cond.now) (expr_walk instance.now.base (names_in instance.now) (instance_in instance.now) yes.now) (expr_walk instance.now.base (names_in instance.now) (instance_in instance.now) no.now) here (counters out.old)).parts }
         ensures made { OnOk result (out.new ≡ joined out.old (spec.conditional instance.now.base (names_in instance.now) (instance_in instance.now) at (expr_walk instance.now.base (names_in instance.now) (instance_in instance.now) cond.now) (expr_walk instance.now.base (names_in instance.now) (instance_in instance.now) yes.now) (expr_walk instance.now.base (names_in instance.now) (instance_in instance.now) no.now) here (counters out.old)).parts) }
         ensures root { IfOk result (λ r. r ≡ (spec.conditional instance.now.base (names_in instance.now) (instance_in instance.now) at (expr_walk instance.now.base (names_in instance.now) (instance_in instance.now) cond.now) (expr_walk instance.now.base (names_in instance.now) (instance_in instance.now) yes.now) (expr_walk instance.now.base (names_in instance.now) (instance_in instance.now) no.now) here (counters out.old)).root) }
     {

@@ -1,11 +1,12 @@
 //! The walk. Its parts take the walks of what stands inside as parameters, so that each is proved by itself.
 #![tactic(auto)]
 
-ghost use Rattle.std.specs.Prelude.{◌≡◌, OnOk, IfOk};
+ghost use Rattle.std.specs.Prelude.{◌≡◌, ◌+◌, OnOk, IfOk};
 ghost use Rattle.zl_flat.specs.Parts.{joined};
 ghost use Rattle.zl_flat.specs.Expressions.{expr_walk};
 ghost use Rattle.zl_flat.specs.Equations.{eqns_walk};
 ghost use Rattle.zl_expand.specs.Walks.{Walks};
+ghost use Rattle.zl_expand.specs.Room.{HasRoom};
 ghost use Rattle.zl_expand.specs.Kept.{counters, instance_in, names_in, inside_in};
 
 use crate::instance::Instance;
@@ -14,15 +15,12 @@ use std::alloc::{AllocError, Global};
 use zl_ast::{Decl, Eqn, Expr};
 use zl_flat::{Here, Root};
 
-/// How many walks can stand inside each other. A program whose constructs and calls are within their limits needs fewer.
-const ROOM: u32 = 1048576;
-
 /// The walks of the expressions and of the equations that stand inside.
 #[derive(Clone, Copy)]
 pub(crate) struct Walker<X, Q> {
     pub(crate) alloc: Global,
-    /// How many walks inside each other there is room for.
-    pub(crate) room: u32,
+    /// How many walks inside each other these two stand in. It is counted so that the walk is seen to end.
+    pub(crate) depth: u32,
     pub(crate) expr: X,
     pub(crate) eqns: Q,
 }
@@ -39,11 +37,12 @@ impl<
         expr: &Expr,
         out: &mut Parts,
     ) -> Result<Root, AllocError>
-        requires { Walks self.now.room (X.pre self.now.expr) (X.post self.now.expr) (Q.pre self.now.eqns) (Q.post self.now.eqns) }
+        requires walks { Walks self.now.depth (X.pre self.now.expr) (X.post self.now.expr) (Q.pre self.now.eqns) (Q.post self.now.eqns) }
+        requires room { HasRoom (self.now.depth + 1) instance.now.base out.old (expr_walk instance.now.base (names_in instance.now) (instance_in instance.now) expr.now here (counters out.old)).parts }
         ensures made { OnOk result (out.new ≡ joined out.old (expr_walk instance.now.base (names_in instance.now) (instance_in instance.now) expr.now here (counters out.old)).parts) }
         ensures root { IfOk result (λ r. r ≡ (expr_walk instance.now.base (names_in instance.now) (instance_in instance.now) expr.now here (counters out.old)).root) }
     {
-        (self.expr)(self.alloc, instance, here, self.room, expr, out)
+        (self.expr)(self.alloc, instance, here, self.depth, expr, out)
     }
 
     /// Makes equations that stand inside.
@@ -54,10 +53,11 @@ impl<
         eqns: &[Eqn],
         out: &mut Parts,
     ) -> Result<(), AllocError>
-        requires { Walks self.now.room (X.pre self.now.expr) (X.post self.now.expr) (Q.pre self.now.eqns) (Q.post self.now.eqns) }
+        requires walks { Walks self.now.depth (X.pre self.now.expr) (X.post self.now.expr) (Q.pre self.now.eqns) (Q.post self.now.eqns) }
+        requires room { HasRoom (self.now.depth + 2) instance.now.base out.old (eqns_walk instance.now.base (names_in instance.now) (instance_in instance.now) eqns.now here (counters out.old)) }
         ensures { OnOk result (out.new ≡ joined out.old (eqns_walk instance.now.base (names_in instance.now) (instance_in instance.now) eqns.now here (counters out.old))) }
     {
-        (self.eqns)(self.alloc, instance, here, self.room, eqns, out)
+        (self.eqns)(self.alloc, instance, here, self.depth, eqns, out)
     }
 }
 
@@ -67,19 +67,17 @@ fn walk_expr(
     alloc: Global,
     instance: &Instance,
     here: Here,
-    room: u32,
+    depth: u32,
     expr: &Expr,
     out: &mut Parts,
 ) -> Result<Root, AllocError>
+    requires { HasRoom (depth + 1) instance.now.base out.old (expr_walk instance.now.base (names_in instance.now) (instance_in instance.now) expr.now here (counters out.old)).parts }
     ensures made { OnOk result (out.new ≡ joined out.old (expr_walk instance.now.base (names_in instance.now) (instance_in instance.now) expr.now here (counters out.old)).parts) }
     ensures root { IfOk result (λ r. r ≡ (expr_walk instance.now.base (names_in instance.now) (instance_in instance.now) expr.now here (counters out.old)).root) }
 {
-    if room == 0 {
-        return Err(AllocError);
-    }
     Walker {
         alloc,
-        room: room - 1,
+        depth: depth + 1,
         expr: walk_expr,
         eqns: walk_eqns,
     }
@@ -92,18 +90,16 @@ fn walk_eqns(
     alloc: Global,
     instance: &Instance,
     here: Here,
-    room: u32,
+    depth: u32,
     eqns: &[Eqn],
     out: &mut Parts,
 ) -> Result<(), AllocError>
+    requires { HasRoom (depth + 2) instance.now.base out.old (eqns_walk instance.now.base (names_in instance.now) (instance_in instance.now) eqns.now here (counters out.old)) }
     ensures { OnOk result (out.new ≡ joined out.old (eqns_walk instance.now.base (names_in instance.now) (instance_in instance.now) eqns.now here (counters out.old))) }
 {
-    if room == 0 {
-        return Err(AllocError);
-    }
     Walker {
         alloc,
-        room: room - 1,
+        depth: depth + 1,
         expr: walk_expr,
         eqns: walk_eqns,
     }
@@ -118,12 +114,13 @@ pub(crate) fn walk_body(
     decl: &Decl,
     out: &mut Parts,
 ) -> Result<Vec<Root>, AllocError>
+    requires { HasRoom 2 instance.now.base out.old (inside_in instance.now decl.now here (counters out.old)).parts }
     ensures made { OnOk result (out.new ≡ joined out.old (inside_in instance.now decl.now here (counters out.old)).parts) }
     ensures results { IfOk result (λ r. r.items ≡ (inside_in instance.now decl.now here (counters out.old)).results) }
 {
     Walker {
         alloc,
-        room: ROOM,
+        depth: 0,
         expr: walk_expr,
         eqns: walk_eqns,
     }

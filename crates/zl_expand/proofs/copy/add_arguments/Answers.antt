@@ -1,38 +1,71 @@
-use Rattle.std.proofs.Common.{rules, ◌≡◌, ℕ, ◌+◌, ◌<◌, List, [], ◌∷◌, length, drop, get_or, sym, ap, ◌∙◌, arith}
-use Rattle.std.proofs.lemmas.List.{drop_more}
-use Rattle.zl_value.specs.declared.value.Ty.TheVariants.{Bool as BoolTy}
+use Rattle.std.proofs.Common.{rules, ◌≡◌, ℕ, ◌+◌, List, [], ◌∷◌, ◌⊎◌, inl, inr, length, refl, sym, ap, ◌∙◌, arith}
+use Rattle.std.proofs.lemmas.Slice.Zip.{either_empty_from_Zip}
+use Rattle.std.specs.Iterator.Adapters.{zip_first, zip_second}
+use Rattle.std.specs.Slice.Iter.{iter_rest}
 use Rattle.zl_meaning.specs.declared.place.Definer.TheVariants.{Plain}
 use Rattle.zl_ast.specs.declared.program.Param.{Param}
 use Rattle.zl_flat.specs.declared.here.Here.{Here}
 use Rattle.zl_flat.specs.declared.here.Root.{Root}
-use Rattle.zl_flat.specs.declared.given.Given.{Given}
 use Rattle.zl_flat.specs.Parts.{Parts, joined, some_definers}
 use Rattle.zl_flat.specs.Equations.{given}
 use Rattle.zl_flat.specs.Expansion.{argument_definers}
-use Rattle.zl_expand.proofs.PartsLaws.{more-definers}
+use Rattle.zl_expand.proofs.PartsLaws.{more-definers, joined-nothing, some-no_definers}
 use Rattle.zl_expand.proofs.copy.add_arguments.Goals as goal
 
--- one argument more
-argument-more : (here : Here) (n : ℕ) (ps : List Param) (rs : List Root) (i : ℕ) (r : Root) → i < length rs → length ps ≡ length rs → argument_definers here n (drop i ps) (drop i rs) ≡ given n (Plain here.block (get_or rs i r).occ) ∷ argument_definers here (n + 1) (drop (i + 1) ps) (drop (i + 1) rs)
-argument-more here n [] rs i r h l = absurd (omega arith)
-argument-more here n (p ∷ ps) rs i r h l = λ j. argument_definers here n (drop_more (p ∷ ps) i p (omega arith) j) (drop_more rs i r h j)
+module _ (here : Here) where
+  -- one definer more
+  one-more : (out new whole : Parts) (n m : ℕ) (xs ys : List Param) (rs qs : List Root) (x : Param) (r : Root) → new ≡ joined out (some_definers (given n (Plain here.block r.occ) ∷ [])) → m ≡ n + 1 → xs ≡ x ∷ ys → rs ≡ r ∷ qs → joined out (some_definers (argument_definers here n xs rs)) ≡ whole → joined new (some_definers (argument_definers here m ys qs)) ≡ whole
+  one-more out new whole n m xs ys rs qs x r e f a b w =
+      (λ j. joined (e j) (some_definers (argument_definers here (f j) ys qs)))
+      ∙ more-definers out (given n (Plain here.block r.occ) ∷ []) (argument_definers here (n + 1) ys qs)
+      ∙ (λ j. joined out (some_definers (argument_definers here n (sym a j) (sym b j))))
+      ∙ w
 
--- the definers of the arguments behind one that is made
-behind-one : (out new : Parts) (g : Given) (n m : ℕ) (rest : ℕ → List Given) (all : List Given) (whole : Parts) → new ≡ joined out (some_definers (g ∷ [])) → m ≡ n → all ≡ g ∷ rest n → joined out (some_definers all) ≡ whole → joined new (some_definers (rest m)) ≡ whole
-behind-one out new g n m rest all whole e f h w =
-    (λ j. joined (e j) (some_definers (rest (f j))))
-    ∙ more-definers out (g ∷ []) (rest n)
-    ∙ ap (λ gs. joined out (some_definers gs)) (sym h)
-    ∙ w
+  no-roots : (n : ℕ) (xs : List Param) → argument_definers here n xs [] ≡ []
+  no-roots n [] = refl
+  no-roots n (x ∷ xs) = refl
+
+  none-left : (n : ℕ) (xs : List Param) (rs : List Root) → (xs ≡ []) ⊎ (rs ≡ []) → argument_definers here n xs rs ≡ []
+  none-left n xs rs (inl e) = ap (λ ys. argument_definers here n ys rs) e
+  none-left n xs rs (inr e) = ap (λ qs. argument_definers here n xs qs) e ∙ no-roots n xs
+
+  -- no definer is left
+  all-made : (out whole : Parts) (n : ℕ) (xs : List Param) (rs : List Root) → (xs ≡ []) ⊎ (rs ≡ []) → joined out (some_definers (argument_definers here n xs rs)) ≡ whole → out ≡ whole
+  all-made out whole n xs rs e w = sym (ap (λ gs. joined out (some_definers gs)) (none-left n xs rs e) ∙ ap (joined out) some-no_definers ∙ joined-nothing out) ∙ w
+
+pub loop-argument-init : goal.loop-argument-init
+loop-argument-init c =
+    let first : iter_rest (zip_first c.into_iter-argument-iterator.result) ≡ c.args.arguments.now = search rules in
+    let second : iter_rest (zip_second c.into_iter-argument-iterator.result) ≡ c.args.params.now = search rules in
+    ((λ j. joined c.args.out.now (some_definers (argument_definers c.args.here c.args.first (second j) (first j)))), ap (λ ps. c.args.first + length ps) second)
 
 pub loop-argument-preserved : goal.loop-argument-preserved
 loop-argument-preserved c =
-    let here = c.args.here in
-    let n = c.loop-argument.place in
-    let i = c.loop-argument.argument-index in
-    let ps = c.args.params.now in
-    let rs = c.args.arguments.now in
-    let d : Root = record { occ = 0; ty = BoolTy } in
-    let within : i < length rs = search rules in
-    let rest = λ (m : ℕ). argument_definers here m (drop (i + 1) ps) (drop (i + 1) rs) in
-    (behind-one c.loop-argument.out c.define.new.self (given n (Plain here.block (get_or rs i d).occ)) (n + 1) c.in_ok-place.place rest _ _ c.in_ok-define.ensures c.in_ok-place.ensures (argument-more here n ps rs i d within c.loop-argument.invariant.1) c.loop-argument.invariant.0, c.loop-argument.invariant.1)
+    let s = c.loop-argument.argument-iterator in
+    let t = c.next.new.self in
+    let first : iter_rest (zip_first s) ≡ c.in-Some.argument.now ∷ iter_rest (zip_first t) = search rules in
+    let second : iter_rest (zip_second s) ≡ c.in-Some._param.now ∷ iter_rest (zip_second t) = search rules in
+    let behind = ap length second in
+    let all = c.loop-argument.invariant.1 in
+    (one-more c.args.here c.loop-argument.out c.define.new.self _ c.loop-argument.place (c.loop-argument.place + 1) _ _ _ _ c.in-Some._param.now c.in-Some.argument.now c.in_ok-define.ensures refl second first c.loop-argument.invariant.0, omega (arith, behind, all))
+
+pub overflow_add-place : goal.overflow_add-place
+overflow_add-place c =
+    let s = c.loop-argument.argument-iterator in
+    let t = c.next.new.self in
+    let second : iter_rest (zip_second s) ≡ c.in-Some._param.now ∷ iter_rest (zip_second t) = search rules in
+    let behind = ap length second in
+    let all = c.loop-argument.invariant.1 in
+    let h = c.requires in
+    omega (arith, behind, all, h)
+
+swapped : {P Q : Type 0} → P ⊎ Q → Q ⊎ P
+swapped (inl p) = inr p
+swapped (inr q) = inl q
+
+pub returns : goal.returns
+returns c =
+    let s = c.loop-argument.argument-iterator in
+    let t = c.next.new.self in
+    let left : (iter_rest (zip_first s) ≡ []) ⊎ (iter_rest (zip_second s) ≡ []) = either_empty_from_Zip s t c.next.result c.in-None.is c.next.ensures.steps in
+    all-made c.args.here c.loop-argument.out _ c.loop-argument.place _ _ (swapped left) c.loop-argument.invariant.0

@@ -14,7 +14,7 @@ returns-clause-made g c =
     let i = instance_in c.args.instance.now in
     let left = expr_walk base names i c.args.left.now in
     let right = expr_walk base names i c.args.right.now in
-    let w : IsFollowed base names i c.args.here c.args.at left right c.args.out.now c.expr.new.out c.leave_occ.new.self c.leave_hidden.new.self c.expr-2.new.out c.set_occ.new.self c.set_hidden.new.self c.in_ok-left.left c.in_ok-right.right c.in_ok-occ.occ c.in_ok-hidden.hidden c.in_ok-pre.pre c.occ.result c.occ-2.result = record {
+    let w : IsFollowed base names i c.args.here c.args.at left right c.args.out.now c.expr.new.out c.leave_occ.new.self c.leave_hidden.new.self c.expr-2.new.out c.set_occ.new.self c.set_hidden.new.self c.in_ok-left.left c.in_ok-right.right c.in_ok-occ.occ c.in_ok-hidden.hidden c.hidden_number-pre.result c.occ.result c.occ-2.result = record {
       left_made = c.in_ok-left.ensures.made;
       left_is = c.in_ok-left.ensures.root;
       occ_is = c.in_ok-occ.ensures.number;
@@ -23,10 +23,10 @@ returns-clause-made g c =
       hidden_left = c.in_ok-hidden.ensures.made;
       right_made = c.in_ok-right.ensures.made;
       right_is = c.in_ok-right.ensures.root;
-      pre_is = c.in_ok-pre.ensures;
+      pre_is = c.hidden_number-pre.ensures;
       arrow_is = c.occ.ensures;
       occ_set = c.set_occ.ensures;
       before_is = c.occ-2.ensures;
       hidden_set = c.set_hidden.ensures;
     } in
-    followed-made base names i c.args.here c.args.at left right c.args.out.now c.expr.new.out c.leave_occ.new.self c.leave_hidden.new.self c.expr-2.new.out c.set_occ.new.self c.set_hidden.new.self c.in_ok-left.left c.in_ok-right.right c.in_ok-occ.occ c.in_ok-hidden.hidden c.in_ok-pre.pre c.occ.result c.occ-2.result w
+    followed-made base names i c.args.here c.args.at left right c.args.out.now c.expr.new.out c.leave_occ.new.self c.leave_hidden.new.self c.expr-2.new.out c.set_occ.new.self c.set_hidden.new.self c.in_ok-left.left c.in_ok-right.right c.in_ok-occ.occ c.in_ok-hidden.hidden c.hidden_number-pre.result c.occ.result c.occ-2.result w
