@@ -15,7 +15,8 @@ use Rattle.zl_ast.specs.Scopes.{scopes}
 use Rattle.zl_ast.specs.Assignments.{IsTyping}
 use Rattle.zl_ast.specs.TypeEqualities.{equalities}
 use Rattle.zl_meaning.specs.FlatForm.{FlatForm}
-use Rattle.zl_flat.specs.Checked.{IsRead, IsChecked}
+use Rattle.zl_ast.specs.Parsed.{IsParsed}
+use Rattle.zl_flat.specs.Checked.{IsChecked}
 use Rattle.zl_flat.specs.Flat.{IsFlatOf}
 use Rattle.zl_flat.specs.ScopedDecls.{program_main}
 use Rattle.zl_flat.specs.Limits.{IsExpandRefusal, IsExpandRefusedBy}
@@ -111,6 +112,6 @@ pub limits_kept : (p : Program) (vars : List (List VarInfo)) (types : List (List
 limits_kept p vars types form same typing flat =
     record { types = types; typing = typing; fits = record { main = flat.main; is_main = subst (λ vs. program_main p vs types ≡ Some flat.main) same flat.is_main; fits = flat.fits } }
 
--- a tree that was read and keeps the rules before is what expansion asks for
-pub tree_checked : (p : Program) (types : List (List Ty)) → IsRead p → KeepsNames p → KeepsTypes p → IsTyping (equalities p) (scopes p) types → IsChecked p types
-tree_checked p types read names kinds typing = record { read = read; names = names; typing = typing; placed = kinds.placed }
+-- a tree that was parsed and keeps the rules before is what expansion asks for
+pub tree_checked : (p : Program) (types : List (List Ty)) → IsParsed p → KeepsNames p → KeepsTypes p → IsTyping (equalities p) (scopes p) types → IsChecked p types
+tree_checked p types parsed names kinds typing = record { parsed = parsed; names = names; typing = typing; placed = kinds.placed }

@@ -1,6 +1,5 @@
 mod LaterRefusals
 mod NamesRefusals
-pub mod ReadTrees
 mod Reports
 mod ThinExpansion
 mod ThinMeaning

@@ -14,6 +14,9 @@ use Rattle.zl_lexer.specs.Positions.{first_place, behind}
 use Rattle.zl_lexer.specs.Tokens.{IsLexed, StopsAt}
 use Rattle.zl_ast.specs.declared.program.Program.{Program}
 use Rattle.zl_ast.specs.Declarations.{IsProgram as HasTree, nesting_limit}
+use Rattle.zl_parser.specs.declared.answer.ParseAnswer.{ParseAnswer}
+use Rattle.zl_parser.specs.declared.answer.ParseAnswer.TheVariants as parse_answer
+use Rattle.zl_parser.specs.ParseAnswers.{HasNoTree, StandsAt, ReadingStops, NoneGoesOn}
 use Rattle.zl_driver.specs.HorizonScript.{horizon_of}
 use Rattle.zl_cli.specs.ThinTree.{thin_tree}
 use Rattle.zl_cli.specs.TreeRules.{KeepsRules, IsFirstBroken}
@@ -47,23 +50,30 @@ pub record IsTreeOf (bytes : List ℕ) (program : Program) : Type 0 where
   pub lexed : IsLexed bytes tokens program.names end
   pub tree : HasTree nesting_limit tokens program
 
+-- There is no tree of the tokens. The answer says why: at which token reading stops, and where that stands.
+pub record IsTreeless (tokens : List Token) (end : Pos) (why : ParseAnswer) : Type 0 where
+  pub none : HasNoTree tokens why
+  pub place : StandsAt tokens end why
+  pub stops : ReadingStops tokens why
+  pub ends : NoneGoesOn tokens why
+
 -- the text has tokens, and there is no tree of them
-pub record HasNoTree (bytes : List ℕ) : Type 0 where
+pub record StopsAtToken (bytes : List ℕ) (why : ParseAnswer) : Type 0 where
   pub text : IsText bytes
   pub tokens : List Token
   pub names : List (List ℕ)
   pub end : Pos
   pub lexed : IsLexed bytes tokens names end
-  pub none : (program : Program) → HasTree nesting_limit tokens program → ⊥
+  pub treeless : IsTreeless tokens end why
 
--- the first rule that the bytes of a file break, and where; at `parse` and `deep` the place is open
+-- the first rule that the bytes of a file break, and where
 abbrev pub Breaks : List ℕ → Rule → Pos → Type 0
 Breaks bytes rule.Size at = (longest_file < length bytes) × (at ≡ file_start)
 Breaks bytes rule.Utf8 at = (length bytes ≤ longest_file) × (IsUtf8 bytes → ⊥) × (at ≡ utf8_end bytes)
 Breaks bytes rule.Token at = IsText bytes × StopsAt bytes (answer.BadToken at)
 Breaks bytes rule.Literal at = IsText bytes × StopsAt bytes (answer.Literal at)
-Breaks bytes rule.Parse at = HasNoTree bytes
-Breaks bytes rule.Deep at = HasNoTree bytes
+Breaks bytes rule.Parse at = (token : ℕ) × StopsAtToken bytes (parse_answer.Parse token at)
+Breaks bytes rule.Deep at = (token : ℕ) × StopsAtToken bytes (parse_answer.Deep token at)
 Breaks bytes rule.Unbuilt at =
     (program : Program) × IsTreeOf bytes program × KeepsRules program × (thin_tree program ≡ None) × (at ≡ file_start)
 Breaks bytes r at = (program : Program) × IsTreeOf bytes program × IsFirstBroken program r at

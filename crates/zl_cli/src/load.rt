@@ -1,6 +1,6 @@
 ghost use Rattle.std.specs.Prelude.{◌≡◌, ◌≤◌, length, IfOk, IfErr};
 ghost use Rattle.zl_lexer.specs.Facts.{AreTokens};
-ghost use Rattle.zl_flat.specs.Checked.{IsRead};
+ghost use Rattle.zl_ast.specs.Parsed.{IsParsed};
 ghost use Rattle.zl_cli.specs.Files.{IsText, StopsAtBytes, GivesProgram, LoadsProgram, LoadsHorizon};
 ghost use Rattle.zl_cli.specs.Loading.{GivesTokens, GivesTree, GivesKept, GivesThin};
 
@@ -79,11 +79,10 @@ fn tokens_of(alloc: Global, text: &str) -> Result<Lexed, Stop>
 }
 
 /// The tree of a text's tokens, if they have one.
-#[tactic(auto, using(crate::proofs::ReadTrees::read_of))]
 fn tree_of(alloc: Global, lexed: Lexed) -> Result<Program, Stop>
     requires { AreTokens lexed.tokens lexed.names lexed.end }
-    ensures tree { GivesTree lexed.tokens lexed.names result }
-    ensures read { IfOk result IsRead }
+    ensures tree { GivesTree lexed.tokens lexed.names lexed.end result }
+    ensures parsed { IfOk result IsParsed }
 {
     match parse(alloc, lexed) {
         Ok(program) => Ok(program),
@@ -101,7 +100,7 @@ fn tree_of(alloc: Global, lexed: Lexed) -> Result<Program, Stop>
 
 /// Whether a tree keeps the rules, or the first that it breaks.
 fn kept(alloc: Global, program: &Program) -> Result<(), Stop>
-    requires { IsRead program.now }
+    requires { IsParsed program.now }
     ensures { GivesKept program.now result }
 {
     match keep_rules(alloc, program) {

@@ -3,7 +3,7 @@ ghost use Rattle.std.specs.Prelude.{◌≡◌, IfErr, OnOk};
 ghost use Rattle.zl_ast.specs.Assignments.{IsTyping};
 ghost use Rattle.zl_ast.specs.Scopes as scope_spec;
 ghost use Rattle.zl_ast.specs.TypeEqualities.{equalities};
-ghost use Rattle.zl_flat.specs.Checked.{IsRead};
+ghost use Rattle.zl_ast.specs.Parsed.{IsParsed};
 ghost use Rattle.zl_cli.specs.TreeRules.{KeepsNames, KeepsTypes, KeepsInitialisation, KeepsRules, IsBrokenBy, GivesTypes, GivesLevels, GivesFlat};
 
 use std::alloc::Global;
@@ -44,7 +44,7 @@ fn flat_of(
     scopes: &Scopes,
     typing: &Typing,
 ) -> Result<Flat, Refusal>
-    requires read { IsRead program.now }
+    requires parsed { IsParsed program.now }
     requires scopes { scopes.now.decls ≡ scope_spec.scopes program.now }
     requires typing { IsTyping (equalities program.now) (scope_spec.scopes program.now) typing.now.decls }
     requires names { KeepsNames program.now }
@@ -59,7 +59,7 @@ fn flat_of(
 /// is by the first rule that the tree breaks. The stages and their order are this project's own.
 #[tactic(auto, using(crate::proofs::NamesRefusals::names_broken))]
 pub(crate) fn keep_rules(alloc: Global, program: &Program) -> Result<(), Refusal>
-    requires { IsRead program.now }
+    requires { IsParsed program.now }
     ensures kept { OnOk result (KeepsRules program.now) }
     ensures refused { IfErr result (IsBrokenBy program.now) }
 {
