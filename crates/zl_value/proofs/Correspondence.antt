@@ -194,7 +194,7 @@ module _ {X Y U V : Type 0} (A : System X Y) (B : System U V) (script : Script) 
       flow = flow_beside h g i j y r move.flow w;
       right = w.fault ∙ move.right;
       whole = w.whole move.right;
-      lasts = subst (λ t. Lasts script (B.values j w.flow) B.sites t d) (sym r.corresponds.0.0.time) (w.lasts d move.lasts);
+      lasts = subst (λ t. Lasts script (B.values j w.flow) B.sites t d) (sym r.corresponds.0.0.time) (w.lasts move.right d move.lasts);
     }
 
     -- its left end
@@ -209,7 +209,7 @@ module _ {X Y U V : Type 0} (A : System X Y) (B : System U V) (script : Script) 
           flow = w.flow;
           duration = left.duration;
           move = move_beside h g i j left.flow left.duration r left.move w;
-          fits = w.moves left.duration left.move.lasts ∙ left.fits;
+          fits = w.moves left.move.right left.duration left.move.lasts ∙ left.fits;
           kind = left.kind;
           time = left.time ∙ ap (λ t. add t left.duration) (sym e.0.0.time);
           inputs = left.inputs ∙ sym e.0.0.inputs;
@@ -255,7 +255,7 @@ module _ {X Y U V : Type 0} (A : System X Y) (B : System U V) (script : Script) 
     in_flow h g i j r _ apart (ByLack y flow fine lacks) = absurd (apart refl)
     in_flow h g i j r _ apart (ByMove y d fault move is) =
         let w = law.flow h g i j y r move.flow (λ none. move.whole) in
-        subst (λ t. EndsInFlow B script g j (EndsInFault fault t FlowMark)) r.corresponds.0.0.time (ByMove w.flow d fault (move_beside h g i j y d r move w) (w.moves d move.lasts ∙ is))
+        subst (λ t. EndsInFlow B script g j (EndsInFault fault t FlowMark)) r.corresponds.0.0.time (ByMove w.flow d fault (move_beside h g i j y d r move w) (w.moves move.right d move.lasts ∙ is))
 
     end_same : (h : History X) (g : History U) → Reached h g → (ending : Ending) → (ending ≡ Empty → ⊥) → IsEnd A script h ending → IsEnd B script g ending
     end_same [] g r ending apart end = absurd end

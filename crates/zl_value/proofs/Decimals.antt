@@ -10,7 +10,7 @@ use Rattle.std.proofs.lemmas.Str.Parse.{digit_at}
 use Rattle.std.specs.Char.{digit_value, is_ascii_digit}
 use Rattle.std.specs.List.{prefix_len}
 use Rattle.std.specs.Str.Parse.{AllDigits, digits_value, digits_value_after}
-use Rattle.zl_value.specs.Decimal.{is_digits, unsigned_number, run, after_run, behind_digits, behind_point, decimal_value, Parts, accepted, scaled_parts, shortened}
+use Rattle.zl_value.specs.Decimal.{is_digits, unsigned_number, float_parts, run, after_run, behind_digits, behind_point, decimal_value, Parts, accepted, scaled_parts, shortened}
 use Rattle.zl_value.specs.Fraction.{Fraction}
 use Rattle.zl_value.specs.Significand.{IsLong, with_zeros, most, counted}
 use Rattle.zl_value.proofs.Significands.{long_with_digits}
@@ -120,6 +120,15 @@ is_digits-all (c ∷ cs) some all = eq-eqb (prefix_len is_ascii_digit (c ∷ cs)
 is_digits-none : (text : List ℕ) → length text ≡ 0 → is_digits text ≡ false
 is_digits-none [] none = refl
 is_digits-none (c ∷ cs) none = absurd (omega arith)
+
+-- a text without digits at its front has no parts
+pub float_parts-none : (text : List ℕ) → length (run text) ≡ 0 → float_parts text ≡ None
+float_parts-none text none =
+    ap (λ (b : Bool). cond b (behind_digits (run text) (after_run text)) None) (is_digits-none (run text) none)
+
+pub float_parts-some : (text : List ℕ) → 0 < length (run text) → float_parts text ≡ behind_digits (run text) (after_run text)
+float_parts-some text some =
+    ap (λ (b : Bool). cond b (behind_digits (run text) (after_run text)) None) (is_digits-all (run text) some (prefix_len-run text))
 
 -- a text without digits at its front is no number
 pub decimal_value-none : (text : List ℕ) → length (run text) ≡ 0 → decimal_value text ≡ None

@@ -12,6 +12,7 @@ pub mod Fractions
 pub mod LinearLaws
 pub mod OneRun
 pub mod Odd
+pub mod QuotientOrder
 pub mod RatioLemmas
 pub mod Ratios
 pub mod Ring
@@ -19,4 +20,6 @@ pub mod Rooms
 pub mod ScaledNumbers
 pub mod Significands
 pub mod ValueTexts
+pub mod WholeSums
+pub mod WideNumbers
 pub mod Words

@@ -72,10 +72,10 @@ module _ {X Y U V : Type 0} (A : System X Y) (B : System U V) (script : Script) 
     pub solves : IsFlow B g j flow
     pub fault : B.flow_fault g j flow ≡ A.flow_fault h i y
     pub whole : IsWhole (A.flow_fault h i y) (B.flow_lacks j flow)
-    -- it lasts as long
-    pub lasts : (d : Fraction) → Lasts script (A.values i y) A.sites i.time d → Lasts script (B.values j flow) B.sites i.time d
-    -- the first number of the move that isn't in the width has the same fault
-    pub moves : (d : Fraction) → Lasts script (A.values i y) A.sites i.time d → move_fault B j flow d ≡ move_fault A i y d
+    -- where there is none, it lasts as long
+    pub lasts : A.flow_fault h i y ≡ None → (d : Fraction) → Lasts script (A.values i y) A.sites i.time d → Lasts script (B.values j flow) B.sites i.time d
+    -- and the first number of the move that isn't in the width has the same fault
+    pub moves : A.flow_fault h i y ≡ None → (d : Fraction) → Lasts script (A.values i y) A.sites i.time d → move_fault B j flow d ≡ move_fault A i y d
     -- its left end is beside the other's
     pub left : (next : Instant X) (end : LeftAfter A script h i next) → end.flow ≡ y → LeftBeside (i ∷ h) (j ∷ g) flow end.duration next
 

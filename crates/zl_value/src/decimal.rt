@@ -1,9 +1,9 @@
-ghost use Rattle.std.specs.Prelude.{◌≡◌, ℤ, ◌+◌, ◌*◌, ◌^◌, ◌<◌, ◌≤◌, ◌++◌, pos, ◌+ℤ◌, ◌-ℤ◌, unsigned_abs, length, min, option_map, option_and_then, IfSome};
+ghost use Rattle.std.specs.Prelude.{◌≡◌, ℕ, ℤ, List, is_some, ◌+◌, ◌*◌, ◌^◌, ◌<◌, ◌≤◌, ◌++◌, pos, ◌+ℤ◌, ◌-ℤ◌, unsigned_abs, length, min, option_map, option_and_then, IfSome};
 ghost use Rattle.std.specs.List.{prefix_len};
 ghost use Rattle.std.specs.Char.{is_ascii_digit};
 ghost use Rattle.std.specs.Str.Parse.{AllDigits, digits_value};
 ghost use Rattle.zl_value.specs.Fraction.{IsFrac, whole, reduced};
-ghost use Rattle.zl_value.specs.Decimal.{decimal_value, accepted, if_fits, scaled_parts, run, after_run, behind_digits, behind_point};
+ghost use Rattle.zl_value.specs.Decimal.{decimal_value, float_parts, accepted, if_fits, scaled_parts, run, after_run, behind_digits, behind_point};
 ghost use Rattle.zl_value.specs.Decimal.{unsigned_number, signed_number, exponent_of};
 ghost use Rattle.zl_value.specs.Significand.{most, counted};
 
@@ -23,6 +23,38 @@ pub fn read_decimal(text: &[u8]) -> Option<Frac>
         return None;
     }
     read_behind_digits(before, rest)
+}
+
+/// Whether a text has the form that `read_decimal` reads, be its number accepted or not. It takes no memory.
+pub fn is_decimal(text: &[u8]) -> bool
+    ensures { result ≡ is_some (float_parts text.now) }
+{
+    let (before, rest) = split_digits(text);
+    !before.is_empty() && is_behind_digits(rest)
+}
+
+/// Whether this behind digits makes a number with a point or an exponent.
+fn is_behind_digits(text: &[u8]) -> bool
+    ensures { (before : List ℕ) → result ≡ is_some (behind_digits before text.now) }
+{
+    match text {
+        [] => false,
+        [b'.', behind @ ..] => is_behind_point(behind),
+        exponent => is_exponent(exponent),
+    }
+}
+
+fn is_behind_point(text: &[u8]) -> bool
+    ensures { (before : List ℕ) → result ≡ is_some (behind_point before (run text.now) (after_run text.now)) }
+{
+    let (_, exponent) = split_digits(text);
+    exponent.is_empty() || is_exponent(exponent)
+}
+
+fn is_exponent(text: &[u8]) -> bool
+    ensures { result ≡ is_some (exponent_of text.now) }
+{
+    read_exponent(text).is_some()
 }
 
 fn read_behind_digits(before: &[u8], text: &[u8]) -> Option<Frac>
@@ -91,7 +123,9 @@ fn counted_value(digits: &[u8]) -> u64
     number
 }
 
-fn read_unsigned(text: &[u8]) -> Option<u64>
+/// The number of a text of one or more digits, or the greatest u64 where it is greater. `None` where the text isn't of
+/// this form. It takes no memory.
+pub fn read_unsigned(text: &[u8]) -> Option<u64>
     ensures { result ≡ option_map (λ n. min n most) (unsigned_number text.now) }
 {
     if text.is_empty() || digit_count(text) < text.len() {

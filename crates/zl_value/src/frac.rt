@@ -115,13 +115,13 @@ impl Frac {
         ensures value { result ≡ fitted (add self other) }
         ensures kept { IfOk result IsFrac }
     {
-        if self.unsigned_den() == other.unsigned_den() {
-            return reduce(sum(self.num(), other.num()), self.unsigned_den() as u128);
+        if other.unsigned_den() == 1 {
+            return self.add_whole(other.num());
         }
-        reduce(
-            sum_over_product(self, other),
-            self.unsigned_den() as u128 * other.unsigned_den() as u128,
-        )
+        if self.unsigned_den() == 1 {
+            return other.add_whole(self.num());
+        }
+        self.add_parts(other)
     }
 
     /// The difference. `Range` where it isn't in the width.
@@ -154,6 +154,32 @@ impl Frac {
         )
     }
 
+    /// The sum of two numbers that may both have a fraction.
+    fn add_parts(self, other: Frac) -> Result<Frac, Arith>
+        ensures value { result ≡ fitted (add self other) }
+        ensures kept { IfOk result IsFrac }
+    {
+        if self.unsigned_den() == other.unsigned_den() {
+            return reduce(sum(self.num(), other.num()), self.unsigned_den() as u128);
+        }
+        reduce(
+            sum_over_product(self, other),
+            self.unsigned_den() as u128 * other.unsigned_den() as u128,
+        )
+    }
+
+    /// The sum with a whole number, which is in lowest terms as the fraction is.
+    fn add_whole(self, number: i64) -> Result<Frac, Arith>
+        requires { unsigned_abs number ≤ greatest }
+        ensures value { result ≡ fitted (add self (whole number)) }
+        ensures kept { IfOk result IsFrac }
+    {
+        fit(
+            sum_with_product(self.num(), product(number, self.den())),
+            self.unsigned_den() as u128,
+        )
+    }
+
     fn unsigned_den(self) -> u64
         ensures value { result ≡ self.den }
         ensures above { 0 < result }
@@ -172,7 +198,7 @@ impl Frac {
 }
 
 /// `num / den` in lowest terms, where that is in the width.
-fn reduce(num: i128, den: u128) -> Result<Frac, Arith>
+pub(crate) fn reduce(num: i128, den: u128) -> Result<Frac, Arith>
     requires num { unsigned_abs num < 2 ^ 127 }
     requires above { 0 < den }
     requires den { den < 2 ^ 127 }
@@ -253,13 +279,22 @@ fn sum(a: i64, b: i64) -> i128
     a as i128 + b as i128
 }
 
-fn product(a: i64, b: i64) -> i128
+pub(crate) fn product(a: i64, b: i64) -> i128
     requires a { unsigned_abs a ≤ greatest }
     requires b { unsigned_abs b ≤ greatest }
     ensures value { result ≡ a *ℤ b }
     ensures bound { unsigned_abs result ≤ greatest * greatest }
 {
     a as i128 * b as i128
+}
+
+fn sum_with_product(a: i64, b: i128) -> i128
+    requires a { unsigned_abs a ≤ greatest }
+    requires b { unsigned_abs b ≤ greatest * greatest }
+    ensures value { result ≡ a +ℤ b }
+    ensures bound { unsigned_abs result ≤ 2 * (greatest * greatest) }
+{
+    a as i128 + b
 }
 
 /// The numerator of the sum of two fractions over the product of their denominators.

@@ -5,10 +5,13 @@ mod arith;
 mod decimal;
 mod frac;
 mod gcd;
+mod int_operators;
 pub mod laws;
+mod line;
 pub mod lowest;
 mod op;
 mod position;
+mod quotients;
 mod ratio_text;
 mod rule;
 mod script;
@@ -18,11 +21,14 @@ mod text;
 mod thin;
 mod value;
 mod value_text;
+mod wide;
 pub mod worked;
 
 pub use arith::Arith;
-pub use decimal::read_decimal;
+pub use decimal::{is_decimal, read_decimal, read_unsigned};
 pub use frac::Frac;
+pub use int_operators::{IntOp, int_neg, int_op};
+pub use line::Line;
 pub use op::Op;
 pub use position::Pos;
 pub use ratio_text::read_ratio;
@@ -36,3 +42,4 @@ pub use value_text::{
     LONGEST_VALUE, print_number, print_position, print_value, write_bytes, write_number,
     write_value,
 };
+pub use wide::Wide;
