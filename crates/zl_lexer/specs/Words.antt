@@ -1,9 +1,10 @@
 -- The reserved words. After Zélus.
-use Rattle.std.specs.Prelude.{ℕ, List, [], ◌∷◌, Option, codes}
+use Rattle.std.specs.Prelude.{◌≡◌, ℕ, Bool, true, not, ◌&&◌, List, [], ◌∷◌, Option, is_some, codes}
 use Rattle.std.specs.Map.{lookup}
-use Rattle.std.specs.Str.{bytes_eq}
+use Rattle.std.specs.Str.{IsUtf8, bytes_eq, chars}
 use Rattle.zl_lexer.specs.declared.token.Word.{Word}
 use Rattle.zl_lexer.specs.declared.token.Word.TheVariants as word
+use Rattle.zl_lexer.specs.Names.{is_name}
 
 abbrev pub words : List (List ℕ × Word)
 words =
@@ -21,3 +22,11 @@ words =
 -- the word that a whole text is
 abbrev pub word_of : List ℕ → Option Word
 word_of text = lookup (bytes_eq text) words
+
+-- the whole text is a name that isn't reserved
+abbrev pub is_identifier : List ℕ → Bool
+is_identifier text = is_name (chars text) && not (is_some (word_of text))
+
+-- the bytes are the text of such a name
+abbrev pub IsIdentifier : List ℕ → Type 0
+IsIdentifier bytes = IsUtf8 bytes × (is_identifier bytes ≡ true)

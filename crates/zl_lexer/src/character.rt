@@ -1,7 +1,7 @@
 ghost use Rattle.std.specs.Prelude.{◌≡◌, ◌≤◌, [], ◌∷◌, ◌++◌, length, drop, encode_utf8, MatchOption};
-ghost use Rattle.std.specs.List.{prefix_len};
+ghost use Rattle.std.specs.List.{list_all, prefix_len};
 ghost use Rattle.std.specs.Str.{chars};
-ghost use Rattle.zl_lexer.specs.Names.{is_name_start};
+ghost use Rattle.zl_lexer.specs.Names.{is_name_start, is_name};
 ghost use Rattle.zl_lexer.specs.Positions.{is_white};
 ghost use Rattle.unicode_ident.specs.Ident.{is_xid_continue};
 
@@ -62,4 +62,20 @@ pub(crate) fn name_len(text: &str) -> usize
     ensures within { result ≤ length text.now }
 {
     text.chars().take_while(|c| continues_name(*c)).count()
+}
+
+fn all_continue_name(text: &str) -> bool
+    ensures { result ≡ list_all is_xid_continue (chars text.now) }
+{
+    text.chars().all(continues_name)
+}
+
+/// Whether the whole text has the form of a name or of a reserved word.
+pub(crate) fn is_name(text: &str) -> bool
+    ensures { result ≡ is_name (chars text.now) }
+{
+    match split(text) {
+        Some((first, rest)) => is_name_start(first) && all_continue_name(rest),
+        None => false,
+    }
 }

@@ -16,3 +16,4 @@ pub use lexer::{lex, one_reading};
 pub use names::Names;
 pub use place::end_of;
 pub use token::{LexAnswer, Lexed, Sign, Token, TokenKind, Word};
+pub use word::is_identifier;

@@ -1,7 +1,16 @@
 ghost use Rattle.std.specs.Prelude.{◌≡◌};
-ghost use Rattle.zl_lexer.specs.Words.{word_of};
+ghost use Rattle.zl_lexer.specs.Words.{word_of, is_identifier};
 
 use crate::Word;
+use crate::character::is_name;
+
+/// Whether the whole text is a name: a character that may start one or `_`, then characters that may continue one, as
+/// Unicode's UAX 31 has them, and not a reserved word. It takes no memory.
+pub fn is_identifier(text: &str) -> bool
+    ensures { result ≡ is_identifier text.now }
+{
+    is_name(text) && word_of(text).is_none()
+}
 
 /// The reserved word that a text is.
 pub(crate) fn word_of(text: &str) -> Option<Word>
