@@ -4,7 +4,7 @@ pub mod Compute
 pub mod Congruence
 pub mod DependencyLists
 pub mod Flows
-pub mod Grades
+pub mod GradesKept
 pub mod Greatest
 pub mod LevelCheck
 pub mod LevelLists

@@ -1,5 +1,5 @@
 -- What stands in lists that are put together, and what holds of all that stand in one.
-use Rattle.std.proofs.Common.{◌≡◌, ◌⊎◌, inl, inr, ℕ, zero, suc, Bool, true, false, ◌&&◌, ◌||◌, nat_eq, List, [], ◌∷◌, ◌++◌, slice_get, Option, Some, refl, sym, ap, subst, ◌∙◌}
+use Rattle.std.proofs.Common.{◌≡◌, ◌⊎◌, inl, inr, ℕ, zero, suc, Bool, true, false, ◌&&◌, ◌||◌, nat_eq, List, [], ◌∷◌, ◌++◌, map, slice_get, Option, Some, refl, sym, ap, subst, ◌∙◌}
 use Rattle.std.specs.List.{AllByRecursion, flat_map, list_any}
 use Rattle.std.proofs.lemmas.Bool.{eqb-true, eq-eqb}
 use Rattle.zl_value.specs.Lists.{Has, among, when}
@@ -21,6 +21,10 @@ has-later y ys x h = record { index = suc h.index; is = h.is }
 pub has-right : {X : Type 0} (xs ys : List X) (x : X) → Has ys x → Has (xs ++ ys) x
 has-right [] ys x h = h
 has-right (y ∷ xs) ys x h = has-later y (xs ++ ys) x (has-right xs ys x h)
+
+-- the last of a list
+pub has-last : {X : Type 0} (xs : List X) (x : X) → Has (xs ++ x ∷ []) x
+has-last xs x = has-right xs (x ∷ []) x (record { index = 0; is = refl })
 
 -- no list without entries has any
 pub has-none : {X : Type 0} (x : X) → Has [] x → ⊥
@@ -63,6 +67,52 @@ pub has-flat_map : {X Y : Type 0} (g : X → List Y) (xs : List X) (x : X) (y : 
 has-flat_map g [] x y h i = absurd (has-none x h)
 has-flat_map g (z ∷ zs) x y h i =
     has-cases (Has (flat_map g (z ∷ zs)) y) z zs x h (λ e. has-left (g z) (flat_map g zs) y (subst (λ u. Has (g u) y) (sym e) i)) (λ j. has-right (g z) (flat_map g zs) y (has-flat_map g zs x y j i))
+
+-- it stands in one of two lists
+pub has-append_case : {X : Type 0} (xs ys : List X) (x : X) → Has (xs ++ ys) x → Has xs x ⊎ Has ys x
+has-append_case [] ys x h = inr h
+has-append_case {X = X} (z ∷ xs) ys x h = by_case (λ g. has-append_case xs ys x g) (has-case z (xs ++ ys) x h)
+  where
+    later : Has xs x ⊎ Has ys x → Has (z ∷ xs) x ⊎ Has ys x
+    later (inl g) = inl (has-later z xs x g)
+    later (inr g) = inr g
+
+    by_case : (Has (xs ++ ys) x → Has xs x ⊎ Has ys x) → (z ≡ x) ⊎ Has (xs ++ ys) x → Has (z ∷ xs) x ⊎ Has ys x
+    by_case rest (inl e) = inl (record { index = 0; is = ap (λ y. Some y) e })
+    by_case rest (inr g) = later (rest g)
+
+-- it is what an entry gives
+pub has-flat_map_from : {X Y : Type 0} (g : X → List Y) (xs : List X) (y : Y) → Has (flat_map g xs) y → (x : X) × Has xs x × Has (g x) y
+has-flat_map_from g [] y h = absurd (has-none y h)
+has-flat_map_from {X = X} {Y = Y} g (x ∷ xs) y h = by_case (λ k. has-flat_map_from g xs y k) (has-append_case (g x) (flat_map g xs) y h)
+  where
+    later : ((z : X) × Has xs z × Has (g z) y) → (z : X) × Has (x ∷ xs) z × Has (g z) y
+    later h = (h.0, has-later x xs h.0 h.1, h.2)
+
+    by_case : (Has (flat_map g xs) y → (z : X) × Has xs z × Has (g z) y) → Has (g x) y ⊎ Has (flat_map g xs) y → (z : X) × Has (x ∷ xs) z × Has (g z) y
+    by_case rest (inl k) = (x, record { index = 0; is = refl }, k)
+    by_case rest (inr k) = later (rest k)
+
+-- it is the image of an entry
+pub has-map_from : {X Y : Type 0} (g : X → Y) (xs : List X) (y : Y) → Has (map g xs) y → (x : X) × Has xs x × (g x ≡ y)
+has-map_from g [] y h = absurd (has-none y h)
+has-map_from {X = X} {Y = Y} g (x ∷ xs) y h = by_case (λ k. has-map_from g xs y k) (has-case (g x) (map g xs) y h)
+  where
+    later : ((z : X) × Has xs z × (g z ≡ y)) → (z : X) × Has (x ∷ xs) z × (g z ≡ y)
+    later h = (h.0, has-later x xs h.0 h.1, h.2)
+
+    by_case : (Has (map g xs) y → (z : X) × Has xs z × (g z ≡ y)) → (g x ≡ y) ⊎ Has (map g xs) y → (z : X) × Has (x ∷ xs) z × (g z ≡ y)
+    by_case rest (inl e) = (x, record { index = 0; is = refl }, e)
+    by_case rest (inr k) = later (rest k)
+
+-- the image of an entry is there
+pub has-map : {X Y : Type 0} (g : X → Y) (xs : List X) (x : X) → Has xs x → Has (map g xs) (g x)
+has-map {X = X} g xs x h = record { index = h.index; is = at xs h.index h.is }
+  where
+    at : (zs : List X) (n : ℕ) → slice_get zs n ≡ Some x → slice_get (map g zs) n ≡ Some (g x)
+    at [] n e = absurd (cc)
+    at (z ∷ zs) zero e = let same : z ≡ x = cc in ap (λ y. Some (g y)) same
+    at (z ∷ zs) (suc n) e = at zs n e
 
 -- a list has each of its entries
 pub each-has : {X : Type 0} (xs : List X) → AllByRecursion (Has xs) xs

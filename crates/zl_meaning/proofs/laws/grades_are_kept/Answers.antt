@@ -1,4 +1,4 @@
-use Rattle.zl_meaning.proofs.Grades.Kept.{grades_are_kept}
+use Rattle.zl_meaning.proofs.GradesKept.Kept.{grades_are_kept}
 use Rattle.zl_meaning.proofs.laws.grades_are_kept.Goals as goal
 
 pub returns : goal.returns

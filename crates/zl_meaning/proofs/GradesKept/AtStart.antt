@@ -35,12 +35,12 @@ use Rattle.zl_meaning.specs.declared.place.PlaceInfo.{PlaceInfo}
 use Rattle.zl_meaning.specs.declared.occurrence.Occ.{Occ}
 use Rattle.zl_meaning.proofs.Beginnings.{IsSolved, at-instant, at-moment}
 use Rattle.zl_meaning.proofs.WrittenForms.{at-start, some-same, true-false}
-use Rattle.zl_meaning.proofs.Grades.OfTypes.{IsOf}
-use Rattle.zl_meaning.proofs.Grades.TypedRuns.{TypedHistory}
-use Rattle.zl_meaning.proofs.Grades.UsedFlow.{active_hybrid, none_some}
-use Rattle.zl_meaning.proofs.Grades.StartControls.{kept_control, hybrid_control}
-use Rattle.zl_meaning.proofs.Grades.UsesSay.{asked-by}
-use Rattle.zl_meaning.proofs.Grades.GradeTable.{Ground}
+use Rattle.zl_meaning.proofs.GradesKept.OfTypes.{IsOf}
+use Rattle.zl_meaning.proofs.GradesKept.TypedRuns.{TypedHistory}
+use Rattle.zl_meaning.proofs.GradesKept.UsedFlow.{active_hybrid, none_some}
+use Rattle.zl_meaning.proofs.GradesKept.StartControls.{kept_control, hybrid_control}
+use Rattle.zl_meaning.proofs.GradesKept.UsesSay.{asked-by}
+use Rattle.zl_meaning.proofs.GradesKept.GradeTable.{Ground}
 
 -- what an instant has at which what has to be decided has a value
 pub record IsDecided (f : FlatForm) (i : Instant) : Type 0 where

@@ -25,8 +25,8 @@ use Rattle.zl_meaning.specs.declared.block.Choice.{Choice}
 use Rattle.zl_meaning.specs.declared.block.Auto.{Auto}
 use Rattle.zl_meaning.proofs.WrittenForms.{at-start, some-same, true-false}
 use Rattle.zl_meaning.proofs.Beginnings.{IsSolved, at-instant}
-use Rattle.zl_meaning.proofs.Grades.StillFlow.{each}
-use Rattle.zl_meaning.proofs.Grades.UsedFlow.{none_some, parent_active}
+use Rattle.zl_meaning.proofs.GradesKept.StillFlow.{each}
+use Rattle.zl_meaning.proofs.GradesKept.UsedFlow.{none_some, parent_active}
 
 -- two controls under an equal parent
 same_under : (c : Control) (x y : Control) → (is_active c ≡ true → x ≡ y) → under c x ≡ under c y

@@ -15,8 +15,8 @@ use Rattle.zl_meaning.proofs.Standing.{IsUsedIn, part-used, part-in, definer-in}
 use Rattle.zl_meaning.proofs.LevelLists.{named-value}
 use Rattle.zl_meaning.proofs.UseCases.{listed-of-use}
 use Rattle.zl_meaning.proofs.WrittenForms.{some-same}
-use Rattle.zl_meaning.proofs.Grades.UsedFlow.{NeverAsks, ByStart, ByReset, CallUnder, UseUnder, KeepsStarts, none_some}
-use Rattle.zl_meaning.proofs.Grades.UsesSay.{whole-of-part, whole-of-branch}
+use Rattle.zl_meaning.proofs.GradesKept.UsedFlow.{NeverAsks, ByStart, ByReset, CallUnder, UseUnder, KeepsStarts, none_some}
+use Rattle.zl_meaning.proofs.GradesKept.UsesSay.{whole-of-part, whole-of-branch}
 
 -- it is an occurrence of the form
 abbrev IsThere : FlatForm → ℕ → Type 0

@@ -43,11 +43,11 @@ use Rattle.zl_meaning.proofs.LevelLists.{each-test, of-state}
 use Rattle.zl_meaning.proofs.Beginnings.{IsSolved, at-instant, latest-solved}
 use Rattle.zl_meaning.proofs.Members.{all-has}
 use Rattle.zl_meaning.proofs.WrittenForms.{some-same, true-false}
-use Rattle.zl_meaning.proofs.Grades.OfTypes.{IsOf}
-use Rattle.zl_meaning.proofs.Grades.Typed.{IsTyped}
-use Rattle.zl_meaning.proofs.Grades.TypedRuns.{prefix_typed}
-use Rattle.zl_meaning.proofs.Grades.UsedFlow.{none_some, and_second}
-use Rattle.zl_meaning.proofs.Grades.UsesSay.{asked-by}
+use Rattle.zl_meaning.proofs.GradesKept.OfTypes.{IsOf}
+use Rattle.zl_meaning.proofs.GradesKept.Typed.{IsTyped}
+use Rattle.zl_meaning.proofs.GradesKept.TypedRuns.{prefix_typed}
+use Rattle.zl_meaning.proofs.GradesKept.UsedFlow.{none_some, and_second}
+use Rattle.zl_meaning.proofs.GradesKept.UsesSay.{asked-by}
 
 -- something is there
 abbrev Given : {X : Type 0} → Option X → Type 0

@@ -18,7 +18,7 @@ use Rattle.zl_meaning.specs.Places.{moved}
 use Rattle.zl_meaning.specs.Occurrences.{applied}
 use Rattle.zl_meaning.specs.KeepsGrades.{IsMoment, StandsStill, on_line, MovesOnLine}
 use Rattle.zl_meaning.proofs.WrittenForms.{at-start, at-unit}
-use Rattle.zl_meaning.proofs.Grades.OfTypes.{IsOf, not_zero}
+use Rattle.zl_meaning.proofs.GradesKept.OfTypes.{IsOf, not_zero}
 
 -- a value at each moment of a flow
 abbrev pub Along : Type 0

@@ -35,14 +35,14 @@ use Rattle.zl_meaning.specs.declared.occurrence.Form.TheVariants.{Lit, Read, Las
 use Rattle.zl_meaning.specs.declared.occurrence.Occ.{Occ}
 use Rattle.zl_meaning.proofs.WrittenForms.{at-start}
 use Rattle.zl_meaning.proofs.UseCases.{use-of-listed}
-use Rattle.zl_meaning.proofs.Grades.Typed.{IsTyped, of_same}
-use Rattle.zl_meaning.proofs.Grades.TypedRuns.{TypedHistory, flow_typed}
-use Rattle.zl_meaning.proofs.Grades.LineKinds.{Along, IsFloat, IsLine, Moves, Rests, moves, rests, is_line, sum_moves, difference_moves, negative_moves, product_moves, product_moves_right, quotient_moves, LineStands, moved_line}
-use Rattle.zl_meaning.proofs.Grades.StillFlow.{each, steady}
-use Rattle.zl_meaning.proofs.Grades.UsedFlow.{used_graded, and_first, and_second}
-use Rattle.zl_meaning.proofs.Grades.GradeTable.{value_of_none, zero_of_up, table_at, graded_le, condition_still, operand_still, Ground}
-use Rattle.zl_meaning.proofs.Grades.KeptBy.{KeptBy, kept_branch, kept_given, kept_if, kept_more, kept_same, kept_still, left_max, max_one, plain_le, product_one, product_zero, quotient_one, right_max, zero_max}
-use Rattle.zl_meaning.proofs.Grades.UsesSay.{asked-by, if-of-branch, plain-used}
+use Rattle.zl_meaning.proofs.GradesKept.Typed.{IsTyped, of_same}
+use Rattle.zl_meaning.proofs.GradesKept.TypedRuns.{TypedHistory, flow_typed}
+use Rattle.zl_meaning.proofs.GradesKept.LineKinds.{Along, IsFloat, IsLine, Moves, Rests, moves, rests, is_line, sum_moves, difference_moves, negative_moves, product_moves, product_moves_right, quotient_moves, LineStands, moved_line}
+use Rattle.zl_meaning.proofs.GradesKept.StillFlow.{each, steady}
+use Rattle.zl_meaning.proofs.GradesKept.UsedFlow.{used_graded, and_first, and_second}
+use Rattle.zl_meaning.proofs.GradesKept.GradeTable.{value_of_none, zero_of_up, table_at, graded_le, condition_still, operand_still, Ground}
+use Rattle.zl_meaning.proofs.GradesKept.KeptBy.{KeptBy, kept_branch, kept_given, kept_if, kept_more, kept_same, kept_still, left_max, max_one, plain_le, product_one, product_zero, quotient_one, right_max, zero_max}
+use Rattle.zl_meaning.proofs.GradesKept.UsesSay.{asked-by, if-of-branch, plain-used}
 
 module _ (f : FlatForm) (g : Grading) (ground : Ground f g) (h : History) (i : Instant) (at : Fraction → Table) (flow : Flow f h i at) (t : TypedHistory f (i ∷ h)) where
   abbrev r : HasNodeRanks f

@@ -30,14 +30,14 @@ use Rattle.zl_meaning.proofs.LevelsOfRanks.{levels-of-ranks}
 use Rattle.zl_meaning.proofs.RanksOfLevels.{ranks-of-levels}
 use Rattle.zl_meaning.proofs.Beginnings.{latest-solved}
 use Rattle.zl_meaning.proofs.WrittenForms.{true-false}
-use Rattle.zl_meaning.proofs.Grades.TypedRuns.{prefix_typed}
-use Rattle.zl_meaning.proofs.Grades.GradeTable.{value_of_none, zero_of_up, needed_le, float_zero, Ground}
-use Rattle.zl_meaning.proofs.Grades.StartValues.{value_start, failing_used, failing_operands}
-use Rattle.zl_meaning.proofs.Grades.NeverBlank.{never_blank}
-use Rattle.zl_meaning.proofs.Grades.FlowItems.{form_keeps, still, still_places, still_types, lines, line_places, derivatives, arguments, others, definers, passes}
-use Rattle.zl_meaning.proofs.Grades.AtStart.{IsStart}
-use Rattle.zl_meaning.proofs.Grades.UsesSay.{argument-stands, slope-stands}
-use Rattle.zl_meaning.proofs.Grades.Starts.{keeps-starts}
+use Rattle.zl_meaning.proofs.GradesKept.TypedRuns.{prefix_typed}
+use Rattle.zl_meaning.proofs.GradesKept.GradeTable.{value_of_none, zero_of_up, needed_le, float_zero, Ground}
+use Rattle.zl_meaning.proofs.GradesKept.StartValues.{value_start, failing_used, failing_operands}
+use Rattle.zl_meaning.proofs.GradesKept.NeverBlank.{never_blank}
+use Rattle.zl_meaning.proofs.GradesKept.FlowItems.{form_keeps, still, still_places, still_types, lines, line_places, derivatives, arguments, others, definers, passes}
+use Rattle.zl_meaning.proofs.GradesKept.AtStart.{IsStart}
+use Rattle.zl_meaning.proofs.GradesKept.UsesSay.{argument-stands, slope-stands}
+use Rattle.zl_meaning.proofs.GradesKept.Starts.{keeps-starts}
 
 module _ (f : FlatForm) (g : Grading) (ground : Ground f g) (tests : HasTests f g.occs) (slopes : HasDerivatives f g.occs) where
   module _ (script : Script) (h : History) (i : Instant) (at : Fraction → Table) (fits : IsScriptFor (input_types f) script) (prefix : IsPrefix f g.occs script (i ∷ h)) (fine : instant_fault f h i ≡ None) (flow : Flow f h i at) where

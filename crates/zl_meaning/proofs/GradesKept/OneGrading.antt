@@ -22,7 +22,7 @@ use Rattle.zl_meaning.specs.declared.occurrence.Form.TheVariants.{Read, Op as Ap
 use Rattle.zl_meaning.specs.declared.occurrence.Occ.{Occ}
 use Rattle.zl_meaning.proofs.LevelsOfRanks.{levels-of-ranks}
 use Rattle.zl_meaning.proofs.RanksOfLevels.{ranks-of-levels}
-use Rattle.zl_meaning.proofs.Grades.UsedFlow.{none_some}
+use Rattle.zl_meaning.proofs.GradesKept.UsedFlow.{none_some}
 
 -- the table of these lists
 abbrev made : List ℕ → List ℕ → Grading

@@ -25,11 +25,11 @@ use Rattle.zl_meaning.specs.declared.occurrence.Occ.{Occ}
 use Rattle.zl_meaning.proofs.WrittenForms.{at-start, true-false}
 use Rattle.zl_meaning.proofs.Standing.{part-in}
 use Rattle.zl_meaning.proofs.UseCases.{use-of-listed}
-use Rattle.zl_meaning.proofs.Grades.UsedFlow.{used_active}
-use Rattle.zl_meaning.proofs.Grades.GradeTable.{graded_part}
-use Rattle.zl_meaning.proofs.Grades.AtStart.{IsStart, StartAt, active_is, flow_used, hybrid_same, made_used}
-use Rattle.zl_meaning.proofs.Grades.Outer.{call-graded, definer-in-copy, whole-graded}
-use Rattle.zl_meaning.proofs.Grades.UsesSay.{if-of-branch, whole-of-branch, whole-of-part}
+use Rattle.zl_meaning.proofs.GradesKept.UsedFlow.{used_active}
+use Rattle.zl_meaning.proofs.GradesKept.GradeTable.{graded_part}
+use Rattle.zl_meaning.proofs.GradesKept.AtStart.{IsStart, StartAt, active_is, flow_used, hybrid_same, made_used}
+use Rattle.zl_meaning.proofs.GradesKept.Outer.{call-graded, definer-in-copy, whole-graded}
+use Rattle.zl_meaning.proofs.GradesKept.UsesSay.{if-of-branch, whole-of-branch, whole-of-part}
 
 module _ (f : FlatForm) (g : Grading) (h : History) (i : Instant) (at : Fraction → Table) (start : IsStart f g h i at) where
   abbrev r : HasNodeRanks f

@@ -12,7 +12,7 @@ use Rattle.zl_meaning.specs.Grades.{product_grade, quotient_grade, if_graded}
 use Rattle.zl_meaning.specs.KeepsGrades.{IsMoment, StandsStill}
 use Rattle.zl_meaning.proofs.StraightLines.{answered-given}
 use Rattle.zl_meaning.proofs.WrittenForms.{at-start}
-use Rattle.zl_meaning.proofs.Grades.LineKinds.{Along, IsLine, LineStands, Runs}
+use Rattle.zl_meaning.proofs.GradesKept.LineKinds.{Along, IsLine, LineStands, Runs}
 
 -- a property of the grade: what has grade 0 stands still, what has grade 1 or 0 moves on a line
 abbrev pub KeptBy : ℕ → Along → Type 0

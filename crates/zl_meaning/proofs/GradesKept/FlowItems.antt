@@ -34,14 +34,14 @@ use Rattle.zl_meaning.specs.declared.occurrence.Occ.{Occ}
 use Rattle.zl_meaning.specs.Regular.{is_value}
 use Rattle.zl_meaning.proofs.Members.{all-has, has-cases, has-none}
 use Rattle.zl_meaning.proofs.WrittenForms.{at-start, true-false}
-use Rattle.zl_meaning.proofs.Grades.TypedRuns.{TypedHistory}
-use Rattle.zl_meaning.proofs.Grades.LineKinds.{Moves, moves, on_its_line, Goes, Nowhere}
-use Rattle.zl_meaning.proofs.Grades.GradeTable.{table_at, graded_le, needed_le, Ground}
-use Rattle.zl_meaning.proofs.Grades.LinearLaw.{kept_at, graded_of, is_floats, plain_graded, typed_at, active_still}
-use Rattle.zl_meaning.proofs.Grades.Typed.{of_same}
-use Rattle.zl_meaning.proofs.Grades.StillFlow.{each}
-use Rattle.zl_meaning.proofs.Grades.UsesSay.{argument-stands}
-use Rattle.zl_meaning.proofs.Grades.KeptBy.{plain_le}
+use Rattle.zl_meaning.proofs.GradesKept.TypedRuns.{TypedHistory}
+use Rattle.zl_meaning.proofs.GradesKept.LineKinds.{Moves, moves, on_its_line, Goes, Nowhere}
+use Rattle.zl_meaning.proofs.GradesKept.GradeTable.{table_at, graded_le, needed_le, Ground}
+use Rattle.zl_meaning.proofs.GradesKept.LinearLaw.{kept_at, graded_of, is_floats, plain_graded, typed_at, active_still}
+use Rattle.zl_meaning.proofs.GradesKept.Typed.{of_same}
+use Rattle.zl_meaning.proofs.GradesKept.StillFlow.{each}
+use Rattle.zl_meaning.proofs.GradesKept.UsesSay.{argument-stands}
+use Rattle.zl_meaning.proofs.GradesKept.KeptBy.{plain_le}
 
 -- a float is of no type that stands still
 type_apart : {ty : Ty} → Float ≡ ty → IsStillType ty → ⊥

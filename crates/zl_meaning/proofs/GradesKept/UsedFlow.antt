@@ -26,8 +26,8 @@ use Rattle.zl_meaning.specs.declared.block.BlockKind.TheVariants.{Main, Arm, Gua
 use Rattle.zl_meaning.specs.declared.occurrence.Occ.{Occ}
 use Rattle.zl_meaning.proofs.WrittenForms.{some-same, true-false}
 use Rattle.zl_meaning.proofs.UseCases.{use-of-listed}
-use Rattle.zl_meaning.proofs.Grades.StillFlow.{each}
-use Rattle.zl_meaning.proofs.Grades.UsesSay.{none-listed}
+use Rattle.zl_meaning.proofs.GradesKept.StillFlow.{each}
+use Rattle.zl_meaning.proofs.GradesKept.UsesSay.{none-listed}
 
 -- the uses that ask for nothing in a flow
 pub data NeverAsks : Use → Type 0 where

@@ -25,14 +25,14 @@ use Rattle.zl_meaning.specs.declared.place.Definer.TheVariants.{Input, Plain, De
 use Rattle.zl_meaning.specs.declared.place.DerArm.{DerArm}
 use Rattle.zl_meaning.specs.declared.place.PlaceInfo.{PlaceInfo}
 use Rattle.zl_meaning.proofs.WrittenForms.{at-start}
-use Rattle.zl_meaning.proofs.Grades.Typed.{of_same}
-use Rattle.zl_meaning.proofs.Grades.UsedFlow.{and_first, and_second}
-use Rattle.zl_meaning.proofs.Grades.GradeTable.{value_of_none, zero_of_up}
-use Rattle.zl_meaning.proofs.Grades.LinearLaw.{graded_of}
-use Rattle.zl_meaning.proofs.Grades.StartControls.{apart_blocks}
-use Rattle.zl_meaning.proofs.Grades.AtStart.{IsStart, StartAt, active_is, flow_not_blank, flow_used, hybrid_same, last_is, made_is, made_used, none_blank, then_not_blank, moved_same}
-use Rattle.zl_meaning.proofs.Grades.UsedAtStart.{call_same}
-use Rattle.zl_meaning.proofs.Grades.UsesSay.{plain-used, slope-used}
+use Rattle.zl_meaning.proofs.GradesKept.Typed.{of_same}
+use Rattle.zl_meaning.proofs.GradesKept.UsedFlow.{and_first, and_second}
+use Rattle.zl_meaning.proofs.GradesKept.GradeTable.{value_of_none, zero_of_up}
+use Rattle.zl_meaning.proofs.GradesKept.LinearLaw.{graded_of}
+use Rattle.zl_meaning.proofs.GradesKept.StartControls.{apart_blocks}
+use Rattle.zl_meaning.proofs.GradesKept.AtStart.{IsStart, StartAt, active_is, flow_not_blank, flow_used, hybrid_same, last_is, made_is, made_used, none_blank, then_not_blank, moved_same}
+use Rattle.zl_meaning.proofs.GradesKept.UsedAtStart.{call_same}
+use Rattle.zl_meaning.proofs.GradesKept.UsesSay.{plain-used, slope-used}
 
 -- the rest of the definers
 next_there : (xs : List Definer) (j : ℕ) (d : Definer) (ds : List Definer) → ((m : ℕ) (e : Definer) → slice_get (d ∷ ds) m ≡ Some e → slice_get xs (j + m) ≡ Some e) → (m : ℕ) (e : Definer) → slice_get ds m ≡ Some e → slice_get xs (suc j + m) ≡ Some e

@@ -29,8 +29,8 @@ use Rattle.zl_meaning.specs.KeepsGrades.{IsMoment}
 use Rattle.zl_meaning.specs.declared.place.PlaceInfo.{PlaceInfo}
 use Rattle.zl_meaning.proofs.Beginnings.{AllHold, IsSolved, latest-solved, at-instant, at-moment, at-latest, at-newest}
 use Rattle.zl_meaning.proofs.WrittenForms.{some-same}
-use Rattle.zl_meaning.proofs.Grades.OfTypes.{IsOf, literal_of}
-use Rattle.zl_meaning.proofs.Grades.Typed.{IsTyped, typed}
+use Rattle.zl_meaning.proofs.GradesKept.OfTypes.{IsOf, literal_of}
+use Rattle.zl_meaning.proofs.GradesKept.Typed.{IsTyped, typed}
 
 -- the inputs are of the types of their places
 abbrev pub InputsTyped : FlatForm → List (Option Value) → Type 0

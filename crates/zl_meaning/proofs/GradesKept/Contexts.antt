@@ -15,8 +15,8 @@ use Rattle.zl_meaning.specs.declared.occurrence.Form.{Form}
 use Rattle.zl_meaning.specs.declared.occurrence.Form.TheVariants.{Lit, Read, Last, Op as Apply, If, Arrow, Pre, Result, Up, Fired, Step}
 use Rattle.zl_meaning.specs.declared.occurrence.Occ.{Occ}
 use Rattle.zl_meaning.proofs.UseCases.{use-of-listed}
-use Rattle.zl_meaning.proofs.Grades.Outer.{IsOuter, call-outer, definer-in-copy, outer-of, whole-outer}
-use Rattle.zl_meaning.proofs.Grades.UsesSay.{none-listed, whole-of-branch, whole-of-part}
+use Rattle.zl_meaning.proofs.GradesKept.Outer.{IsOuter, call-outer, definer-in-copy, outer-of, whole-outer}
+use Rattle.zl_meaning.proofs.GradesKept.UsesSay.{none-listed, whole-of-branch, whole-of-part}
 
 -- in hybrid context nothing reads an earlier instant
 pub record ReadsNow (f : FlatForm) : Type 0 where

@@ -18,7 +18,7 @@ use Rattle.zl_meaning.specs.declared.occurrence.Occ.{Occ}
 use Rattle.zl_meaning.proofs.Members.{all-has, has-none}
 use Rattle.zl_meaning.proofs.Standing.{part-in}
 use Rattle.zl_meaning.proofs.WrittenForms.{some-same, true-false}
-use Rattle.zl_meaning.proofs.Grades.StartControls.{outer_hybrid}
+use Rattle.zl_meaning.proofs.GradesKept.StartControls.{outer_hybrid}
 
 -- it stands in a hybrid block, and not under an `init` value or a reset value
 pub record IsOuter (f : FlatForm) (k : ℕ) : Type 0 where

@@ -28,7 +28,7 @@ use Rattle.zl_meaning.specs.declared.place.PlaceInfo.{PlaceInfo}
 use Rattle.zl_meaning.specs.declared.occurrence.Form.{Form}
 use Rattle.zl_meaning.specs.declared.occurrence.Form.TheVariants.{Lit, Read, Last, Op as Apply, If, Arrow, Pre, Result, Up, Fired, Step}
 use Rattle.zl_meaning.specs.declared.occurrence.Occ.{Occ}
-use Rattle.zl_meaning.proofs.Grades.OfTypes.{IsOf, AreOf, literal_of, exact_of, operate_of}
+use Rattle.zl_meaning.proofs.GradesKept.OfTypes.{IsOf, AreOf, literal_of, exact_of, operate_of}
 
 -- what stands at an entry is of the type of its place, or of its occurrence
 abbrev pub TypedAt : FlatForm → State → Node → Type 0

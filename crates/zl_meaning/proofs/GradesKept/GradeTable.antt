@@ -25,7 +25,7 @@ use Rattle.zl_meaning.specs.Single.{IsSingle}
 use Rattle.zl_meaning.proofs.Standing.{IsUsedIn, part-used}
 use Rattle.zl_meaning.proofs.Members.{has-cases, has-none}
 use Rattle.zl_meaning.proofs.WrittenForms.{some-same, true-false}
-use Rattle.zl_meaning.proofs.Grades.UsedFlow.{NeverAsks, KeepsStarts, ByReset, ByStart}
+use Rattle.zl_meaning.proofs.GradesKept.UsedFlow.{NeverAsks, KeepsStarts, ByReset, ByStart}
 
 -- no other type is that of an `up`
 bool_zero : BoolTy ≡ Zero → ⊥

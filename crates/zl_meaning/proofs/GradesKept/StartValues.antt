@@ -20,12 +20,12 @@ use Rattle.zl_meaning.specs.Grades.{Grading, grade_of, IsGraded}
 use Rattle.zl_meaning.specs.declared.occurrence.Form.TheVariants.{Op as Apply}
 use Rattle.zl_meaning.specs.declared.occurrence.Occ.{Occ}
 use Rattle.zl_meaning.proofs.WrittenForms.{at-start, true-false}
-use Rattle.zl_meaning.proofs.Grades.GradeTable.{not_ungraded}
-use Rattle.zl_meaning.proofs.Grades.LinearLaw.{graded_of}
-use Rattle.zl_meaning.proofs.Grades.AtStart.{IsStart, StartAt, flow_is, made_is}
-use Rattle.zl_meaning.proofs.Grades.PlacesAtStart.{place_same}
-use Rattle.zl_meaning.proofs.Grades.ValuesAtStart.{steady_same, value_same}
-use Rattle.zl_meaning.proofs.Grades.UsedAtStart.{used_same}
+use Rattle.zl_meaning.proofs.GradesKept.GradeTable.{not_ungraded}
+use Rattle.zl_meaning.proofs.GradesKept.LinearLaw.{graded_of}
+use Rattle.zl_meaning.proofs.GradesKept.AtStart.{IsStart, StartAt, flow_is, made_is}
+use Rattle.zl_meaning.proofs.GradesKept.PlacesAtStart.{place_same}
+use Rattle.zl_meaning.proofs.GradesKept.ValuesAtStart.{steady_same, value_same}
+use Rattle.zl_meaning.proofs.GradesKept.UsedAtStart.{used_same}
 
 module _ (f : FlatForm) (g : Grading) (h : History) (i : Instant) (at : Fraction → Table) (start : IsStart f g h i at) where
   abbrev r : HasNodeRanks f

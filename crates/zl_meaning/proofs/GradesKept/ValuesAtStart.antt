@@ -27,12 +27,12 @@ use Rattle.zl_meaning.specs.declared.occurrence.Form.{Form}
 use Rattle.zl_meaning.specs.declared.occurrence.Form.TheVariants.{Lit, Read, Last, Op as Apply, If, Arrow, Pre, Result, Up, Fired, Step}
 use Rattle.zl_meaning.proofs.WrittenForms.{at-start, true-false}
 use Rattle.zl_meaning.proofs.Standing.{branch-part, part-in, part-of-form, steady-part}
-use Rattle.zl_meaning.proofs.Grades.UsedFlow.{used_active}
-use Rattle.zl_meaning.proofs.Grades.GradeTable.{graded_part}
-use Rattle.zl_meaning.proofs.Grades.StartControls.{outer_hybrid}
-use Rattle.zl_meaning.proofs.Grades.AtStart.{IsStart, StartAt, active_is, flow_used, hybrid_same, made_used, no_fault, applied_same}
-use Rattle.zl_meaning.proofs.Grades.Outer.{call-graded}
-use Rattle.zl_meaning.proofs.Grades.Contexts.{reads_now}
+use Rattle.zl_meaning.proofs.GradesKept.UsedFlow.{used_active}
+use Rattle.zl_meaning.proofs.GradesKept.GradeTable.{graded_part}
+use Rattle.zl_meaning.proofs.GradesKept.StartControls.{outer_hybrid}
+use Rattle.zl_meaning.proofs.GradesKept.AtStart.{IsStart, StartAt, active_is, flow_used, hybrid_same, made_used, no_fault, applied_same}
+use Rattle.zl_meaning.proofs.GradesKept.Outer.{call-graded}
+use Rattle.zl_meaning.proofs.GradesKept.Contexts.{reads_now}
 
 module _ (f : FlatForm) (g : Grading) (h : History) (i : Instant) (at : Fraction → Table) (start : IsStart f g h i at) where
   abbrev r : HasNodeRanks f
