@@ -2,12 +2,11 @@
 use Rattle.std.proofs.Common.{◌≡◌, ◌⊎◌, inl, inr, ℕ, ◌+◌, ◌<◌, ◌≤◌, Bool, true, false, List, [], ◌∷◌, ◌++◌, get_or, refl, sym, subst, arith}
 use Rattle.std.proofs.lemmas.Bool.{cases_lt}
 use Rattle.zl_value.specs.Lists.{Has}
-use Rattle.zl_meaning.proofs.Members.{has-left, has-right, has-cases, has-none}
+use Rattle.zl_meaning.proofs.Members.{has-left, has-right, has-cases, has-none, has-append_case}
 use Rattle.zl_causal.specs.declared.graph.Link.{Link}
 use Rattle.zl_causal.specs.declared.node.Node.TheVariants.{Place, Block, Hub}
 use Rattle.zl_causal.specs.Nodes.{number_of, link_of}
 use Rattle.zl_causal.specs.Refused.{ToHub, FromHub, HasBlocks, HasPlaces, IsBlockAdded}
-use Rattle.zl_causal.proofs.Membership.{has-append_case}
 
 this_one : (xs : List Link) (x : Link) → Has (xs ++ x ∷ []) x
 this_one xs x = has-right xs (x ∷ []) x (record { index = 0; is = refl })

@@ -3,7 +3,6 @@ pub mod LinkEdges
 pub mod LinkLaws
 pub mod Loops
 pub mod Meanings
-pub mod Membership
 pub mod Moves
 pub mod NodeNumbers
 pub mod Numbered

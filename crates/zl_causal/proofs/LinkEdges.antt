@@ -18,7 +18,7 @@ use Rattle.zl_meaning.specs.declared.place.PlaceInfo.{PlaceInfo}
 use Rattle.zl_meaning.specs.declared.occurrence.Form.{Form}
 use Rattle.zl_meaning.specs.declared.occurrence.Form.TheVariants.{Lit, Read, Last, Op as Apply, If, Arrow, Pre, Result, Up, Fired, Step}
 use Rattle.zl_meaning.specs.declared.occurrence.Occ.{Occ}
-use Rattle.zl_meaning.proofs.Members.{has-none, has-cases}
+use Rattle.zl_meaning.proofs.Members.{has-none, has-cases, has-append_case, has-flat_map_from}
 use Rattle.zl_causal.specs.declared.graph.Link.{Link}
 use Rattle.zl_causal.specs.declared.node.Node.{Node}
 use Rattle.zl_causal.specs.declared.node.Node.TheVariants.{Place, Block, Value, Used, Start, Lasts, Leads, Tests, Strong, Events}
@@ -26,7 +26,6 @@ use Rattle.zl_causal.specs.Nodes.{link_of}
 use Rattle.zl_causal.specs.FormLinks.{reading, branch_links, form_links, call_links, occ_links, arm_links, definer_links, own_links, block_links, kind_links, parent_links, choice_links, test_links, automaton_links, move_links, strong_links, place_call_links, places_links, blocks_links, occs_links, choices_links, automata_links, links_of}
 use Rattle.zl_causal.specs.Edges as edges
 use Rattle.zl_causal.specs.Edges.{Edge, IsDer, all_definers}
-use Rattle.zl_causal.proofs.Membership.{has-append_case, has-flat_map_from}
 use Rattle.zl_causal.proofs.Numbered.{FromEntry, numbered-from, FromPlace, Own, OfDefiner, places-from}
 
 -- a link is an edge

@@ -14,7 +14,7 @@ use Rattle.zl_meaning.specs.declared.occurrence.Form.{Form}
 use Rattle.zl_meaning.specs.declared.occurrence.Form.TheVariants.{Last}
 use Rattle.zl_causal.specs.declared.node.Node.{Node}
 use Rattle.zl_causal.specs.declared.node.Node.TheVariants.{Place, Block, Value, Used, Start, Lasts, Leads, Tests, Strong, Events, Hub}
-use Rattle.zl_causal.proofs.Membership.{has-map, has-flat_map_from}
+use Rattle.zl_meaning.proofs.Members.{has-map, has-flat_map_from}
 use Rattle.zl_causal.specs.Nodes.{node_of}
 use Rattle.zl_causal.specs.Edges as edges
 use Rattle.zl_causal.specs.Edges.{Edge, Way, One, More, IsDer, all_definers}

@@ -1,13 +1,12 @@
 -- The links of the entries of a list, one by one.
 use Rattle.std.proofs.Common.{◌≡◌, ◌⊎◌, inl, inr, ℕ, zero, suc, ◌+◌, List, [], ◌∷◌, ◌++◌, length, slice_get, Some, refl, sym, subst, arith}
 use Rattle.zl_value.specs.Lists.{Has}
-use Rattle.zl_meaning.proofs.Members.{has-left, has-right, has-none}
+use Rattle.zl_meaning.proofs.Members.{has-left, has-right, has-none, has-append_case}
 use Rattle.zl_meaning.specs.declared.place.Definer.{Definer}
 use Rattle.zl_meaning.specs.declared.place.PlaceInfo.{PlaceInfo}
 use Rattle.zl_causal.specs.declared.graph.Link.{Link}
 use Rattle.zl_causal.specs.FormLinks.{numbered, own_links, definer_links, definers_links, places_links}
 use Rattle.zl_causal.specs.Edges.{all_definers}
-use Rattle.zl_causal.proofs.Membership.{has-append_case}
 use Rattle.zl_causal.proofs.Positions.{get-left}
 
 pub numbered-has : {X : Type 0} (links : ℕ → X → List Link) (k i n : ℕ) (xs : List X) (x : X) (l : Link) → n ≡ k + i → slice_get xs i ≡ Some x → Has (links n x) l → Has (numbered links k xs) l

@@ -13,8 +13,7 @@ use Rattle.zl_meaning.specs.declared.place.PlaceInfo.{PlaceInfo}
 use Rattle.zl_meaning.specs.declared.occurrence.Form.TheVariants.{If}
 use Rattle.zl_causal.specs.declared.node.Node.{Node}
 use Rattle.zl_causal.specs.declared.node.Node.TheVariants.{Place, Block, Value, Used, Start, Lasts, Leads, Tests, Strong, Events}
-use Rattle.zl_meaning.proofs.Members.{has-flat_map}
-use Rattle.zl_causal.proofs.Membership.{has-map_from}
+use Rattle.zl_meaning.proofs.Members.{has-flat_map, has-map_from}
 use Rattle.zl_causal.specs.Nodes.{node_of}
 use Rattle.zl_causal.specs.Edges as edges
 use Rattle.zl_causal.specs.Edges.{Edge, Way, One, More, IsDer, all_definers}

@@ -4,6 +4,7 @@ ghost use Rattle.zl_causal.specs.Graph.{HasNodes};
 ghost use Rattle.zl_causal.specs.Chains.{HasChains, HasAdded};
 
 use std::alloc::{AllocError, Global};
+use zl_meaning::narrow;
 
 /// A link from one node to another.
 #[derive(Clone, Copy, Debug)]
@@ -46,17 +47,12 @@ pub(crate) fn node_count(links: &[Link]) -> usize
     count
 }
 
-/// The number behind this one. One that is too large can't be told from want of memory.
+/// The number behind this one.
 fn behind(count: usize) -> Result<u32, AllocError>
     ensures { IfOk result (λ n. n ≡ count + 1) }
 {
-    match u32::try_from(count) {
-        Ok(n) => match n.checked_add(1) {
-            Some(m) => Ok(m),
-            None => Err(AllocError),
-        },
-        Err(_) => Err(AllocError),
-    }
+    let last = narrow(count as u64)?;
+    narrow(last as u64 + 1)
 }
 
 impl<'a> Graph<'a> {

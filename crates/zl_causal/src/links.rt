@@ -10,18 +10,15 @@ use crate::graph::Link;
 use crate::node::{Node, add_link};
 use std::alloc::{AllocError, Global};
 use zl_meaning::{
-    Auto, AutoMove, Block, BlockKind, Choice, Definer, DerArm, Flat, Form, Occ, PlaceInfo,
+    Auto, AutoMove, Block, BlockKind, Choice, Definer, DerArm, Flat, Form, Occ, PlaceInfo, narrow,
 };
 use zl_value::Sequence;
 
-/// The number behind this one. One that is too large can't be told from want of memory.
+/// The number behind this one.
 fn next(number: u32) -> Result<u32, AllocError>
     ensures { IfOk result (λ m. m ≡ number + 1) }
 {
-    match number.checked_add(1) {
-        Some(m) => Ok(m),
-        None => Err(AllocError),
-    }
+    narrow(number as u64 + 1)
 }
 
 /// An occurrence reads a part.

@@ -4,6 +4,7 @@ ghost use Rattle.zl_causal.specs.Nodes.{number_of, link_of};
 
 use crate::graph::Link;
 use std::alloc::AllocError;
+use zl_meaning::narrow;
 
 /// A node of the graph of a form.
 #[derive(Clone, Copy, Debug)]
@@ -33,22 +34,16 @@ pub(crate) enum Node {
 }
 
 /// How many sorts of nodes there are.
-const SORTS: u32 = 11;
+const SORTS: u64 = 11;
 
 /// The number of the node of this index and sort.
 fn numbered(index: u32, sort: u32) -> Result<u32, AllocError>
     ensures { IfOk result (λ n. n ≡ index * 11 + sort) }
 {
-    let Some(first) = index.checked_mul(SORTS) else {
-        return Err(AllocError);
-    };
-    match first.checked_add(sort) {
-        Some(number) => Ok(number),
-        None => Err(AllocError),
-    }
+    narrow(index as u64 * SORTS + sort as u64)
 }
 
-/// The number of a node. One that is too large can't be told from want of memory.
+/// The number of a node.
 pub(crate) fn number_of(node: Node) -> Result<u32, AllocError>
     ensures { IfOk result (λ n. n ≡ number_of node) }
 {

@@ -1,6 +1,7 @@
 //! Ranks of the places and blocks of a flat form.
 ghost use Rattle.std.specs.Prelude.{◌≡◌, ℕ, true, false, length, slice_index_or, None, IfOk, IfErr, IfSome, OnOk};
 ghost use Rattle.zl_meaning.specs.Depends.{AreRanks};
+ghost use Rattle.zl_meaning.specs.OneInstant.{HasOneInstantEach};
 ghost use Rattle.zl_causal.specs.Circles.{AreCircles};
 ghost use Rattle.zl_causal.specs.FormLinks as spec;
 ghost use Rattle.zl_causal.specs.Nodes as nodes;
@@ -13,17 +14,15 @@ use crate::graph::Link;
 use crate::links::links_of;
 use crate::node::{Node, add_link, number_of};
 use std::alloc::{AllocError, Global};
-use zl_meaning::{Flat, PlaceInfo, Ranks};
+use zl_meaning::laws::is_well_formed;
+use zl_meaning::{Flat, PlaceInfo, Ranks, narrow};
 use zl_value::{Pos, Refusal, Rule};
 
-/// A count as a number. One that is too large can't be told from want of memory.
+/// A count as a number.
 fn number(count: usize) -> Result<u32, AllocError>
     ensures { IfOk result (λ n. n ≡ count) }
 {
-    match u32::try_from(count) {
-        Ok(n) => Ok(n),
-        Err(_) => Err(AllocError),
-    }
+    narrow(count as u64)
 }
 
 /// Whether a node leads to itself.
@@ -176,11 +175,16 @@ fn try_ranks(alloc: Global, flat: &Flat) -> Result<Ranked, AllocError>
     }
 }
 
-/// Ranks of the places and blocks of a form that grow along every dependency, or the place at which it is refused.
+/// Ranks of the places and blocks of a form that grow along every dependency; so after each history it has exactly one
+/// instant of each kind. `Broken` with `Causality` where a place or a block depends on itself, at the first such place in the
+/// order of expansion or, where no place does, at the first that depends on such a block; `Memory` for want of memory. The
+/// rule is this project's own, after Zélus.
 pub fn ranks(alloc: Global, flat: &Flat) -> Result<Ranks, Refusal>
     ensures ranks { IfOk result (λ r. AreRanks flat.now r.places.items r.blocks.items) }
+    ensures one { IfOk result (λ _. HasOneInstantEach flat.now) }
     ensures refused { IfErr result (IsRefused flat.now) }
 {
+    is_well_formed(flat);
     match try_ranks(alloc, flat) {
         Ok(Ranked::Causal(ranks)) => Ok(ranks),
         Ok(Ranked::Circular(at)) => Err(Refusal::Broken {

@@ -11,6 +11,7 @@ use crate::graph::Graph;
 use crate::marks::{Mark, Marks};
 use std::alloc::{AllocError, Global};
 use std::marker::Model;
+use zl_meaning::narrow;
 
 /// Nodes on the stack that all reach each other: those from position `first` on. What they lead to, and wasn't followed so
 /// far, waits from position `waiting` on.
@@ -31,14 +32,11 @@ pub(crate) struct Walk {
     count: u32,
 }
 
-/// A count as a number. One that is too large can't be told from want of memory.
+/// A count as a number.
 fn number(count: usize) -> Result<u32, AllocError>
     ensures { IfOk result (λ n. n ≡ count) }
 {
-    match u32::try_from(count) {
-        Ok(n) => Ok(n),
-        Err(_) => Err(AllocError),
-    }
+    narrow(count as u64)
 }
 
 /// Takes away the last parts, as long as they begin above this position.
@@ -125,13 +123,8 @@ impl Walk {
         let first = self.parts[self.parts.len() - 1].first as usize;
         self.parts.pop();
         unstack(&mut self.stack, &mut self.marks, first, self.count);
-        match self.count.checked_add(1) {
-            Some(count) => {
-                self.count = count;
-                Ok(())
-            }
-            None => Err(AllocError),
-        }
+        self.count = narrow(self.count as u64 + 1)?;
+        Ok(())
     }
 
     /// Follows one link from the last part, or closes it where none is left.

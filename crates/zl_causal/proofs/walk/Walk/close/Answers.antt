@@ -5,8 +5,8 @@ use Rattle.zl_causal.specs.Walking.{Stage, IsWalk, IsOver, Moves}
 use Rattle.zl_causal.proofs.Moves.{closed_by}
 use Rattle.zl_causal.proofs.walk.Walk.close.Goals as goal
 
-pub returns-in-Some : goal.returns-in-Some
-returns-in-Some c =
+pub returns : goal.returns
+returns c =
     let s : Stage = record { marks = c.self.inside.marks; stack = c.self.inside.stack.items; waiting = c.self.inside.waiting.items; parts = c.self.inside.parts.items; count = c.self.inside.count } in
     let view : s ≡ c.args.self.now = c.self.view_is in
     let over : IsOver s = subst IsOver (sym view) c.requires.over in
@@ -16,6 +16,6 @@ returns-in-Some c =
     let last : slice_get s.parts over.number ≡ Some q = over.is ∙ ap (λ p. Some p) (sym is) in
     let done : length s.waiting ≡ q.waiting = over.over ∙ ap (λ (p : Part). p.waiting) (sym is) in
     let rest : c.pop.new.self.items ≡ take over.number s.parts = c.pop.ensures.rest ∙ ap (λ i. take i s.parts) (omega (arith, over.last)) in
-    λ links w. subst (λ (o : Stage). Moves links o (record { marks = c.unstack.new.marks; stack = c.unstack.new.stack.items; waiting = s.waiting; parts = c.pop.new.self.items; count = c.in-Some.count })) view
-    (closed_by links s over.number q c.unstack.new.marks c.unstack.new.stack.items c.pop.new.self.items c.in-Some.count (subst (IsWalk links) (sym view) w) over.last last done
-    c.unstack.ensures.closed c.unstack.ensures.stack rest c.in-Some.ensures.1)
+    λ links w. subst (λ (o : Stage). Moves links o (record { marks = c.unstack.new.marks; stack = c.unstack.new.stack.items; waiting = s.waiting; parts = c.pop.new.self.items; count = c.in_ok-self-inside.field-0 })) view
+    (closed_by links s over.number q c.unstack.new.marks c.unstack.new.stack.items c.pop.new.self.items c.in_ok-self-inside.field-0 (subst (IsWalk links) (sym view) w) over.last last done
+    c.unstack.ensures.closed c.unstack.ensures.stack rest c.in_ok-self-inside.ensures.narrowed)
