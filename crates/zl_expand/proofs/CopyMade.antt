@@ -57,6 +57,26 @@ module _ (base : ℕ) (names : List (List ℕ)) (i : Instance) (d : Decl) (defin
   pub copy-results : (out o1 o2 : Parts) → o1 ≡ joined out (some_places (map (param_place i here) d.params)) → o2 ≡ joined o1 (some_definers definers) → (inside (counters o2)).results ≡ (body_copy base names i d definers here (counters out)).results
   copy-results out o1 o2 e f = λ t. (inside (counted out o1 o2 e f t)).results
 
+-- ---- the numbers of its places
+
+-- a copy with room has numbers for its places
+pub numbers-room : (i : TheInstance) (id number first : ℕ) (decl : Decl) (here : Here) (roots : List Root) (out : Parts) (d : ℕ) → number < i.known.now.number → Some number ≡ position (nat_eq id) (map (λ d. d.name.id) i.known.now.declared.now.decls.now) → HasScoped (scoped_in i.known.now.declared.now) number decl → first ≡ length out.places → HasRoom d i.base out (callee ((instance_in i).callees id) here roots (counters out)).parts →
+    (decl_numbering (option_map_or (λ d. d.infos) (slice_get (scoped_in i.known.now.declared.now) number) []) (found (with_sizes [] (take number (scoped_in i.known.now.declared.now)))) decl first).next < 2 ^ 32
+unfolding instance_in counters
+numbers-room i id number first decl here roots out d before named there first_is h =
+    let declared = i.known.now.declared.now in
+    let names = declared.names.now in
+    let ss = scoped_in declared in
+    let one = there.one in
+    let sizes = found (with_sizes [] (take number ss)) in
+    let same : (decl_numbering (option_map_or (λ d. d.infos) (slice_get ss number) []) sizes decl first).next ≡ (decl_numbering one.infos sizes one.decl (length out.places)).next = λ t. (decl_numbering (option_map_or (λ d. d.infos) (there.there t) []) sizes (sym there.is t) (first_is t)).next in
+    let copy = decl_copy i.base names (found (with_callees i.base names [] [] (take number ss))) sizes one here roots (counters out) in
+    let end : (decl_numbering one.infos sizes one.decl (length out.places)).next ≡ length out.places + length copy.parts.places = declared.numbered i.base number one there.there here roots (counters out) in
+    let made : count (callee ((instance_in i).callees id) here roots (counters out)).parts ≡ count copy.parts = ap (λ o. count (callee o here roots (counters out)).parts) (callee-there i.base names declared.decls.now declared.scopes.now declared.types.now i.known.now.number number id one declared.all_scoped declared.all_typed before there.there named) in
+    let few = fewer-places copy.parts in
+    let so_far = fewer-places out in
+    omega (arith, same, end, made, few, so_far, h)
+
 -- ---- the declaration that is called
 
 -- the instance whose parameters were made

@@ -30,7 +30,9 @@ use Rattle.zl_flat.specs.Expressions.{exprs_walk}
 use Rattle.zl_flat.specs.Counted.{count}
 use Rattle.zl_flat.specs.Checked.{IsChecked}
 use Rattle.zl_ast.specs.Scopes.{scopes}
+use Rattle.zl_flat.specs.Sizes.{plus, a_block, decl_size}
 use Rattle.zl_flat.proofs.CheckedPrograms.{count-is-small}
+use Rattle.zl_flat.proofs.NumberingEnds.{decl-ends}
 use Rattle.zl_expand.specs.Room.{HasRoom}
 use Rattle.zl_expand.proofs.RoomLaws.{count-joined, count-places, count-nothing}
 use Rattle.zl_flat.specs.Expansion.{Scoped, found, with_sizes, with_callees, MainOf, main_size, sizes_of, program_main, main_here, main_block, input_definers, param_place, body_copy, instance, variables_from, result_places, form_of, main_parts, main_form}
@@ -213,6 +215,23 @@ main-room k m decl base h n e b f scoped checked =
     let none = count-nothing in
     let few = fits.occs in
     omega (arith, small, same, none, few, exact)
+
+main-places : (m : MainOf) → (main_size m).places ≡ (decl_size m.main.infos (sizes_of m) m.main.decl).places
+unfolding main_size plus a_block
+main-places m = omega arith
+
+-- so are there numbers for the places of its copy
+pub main-numbers : (k : Known) (m : Measured) (decl : Decl) (h : IsMeasured k.declared.now m) → k.number ≡ m.main → decl ≡ h.of.main.decl → FitsIn (program_in k.declared.now) k.declared.now.scopes.now k.declared.now.types.now → (decl_numbering (infos_in k) (known_in k) decl 0).next < 2 ^ 32
+main-numbers k m decl h n e f =
+    let ss = scoped_in k.declared.now in
+    let of = h.of in
+    let before = h.is_behind ∙ ap (λ i. take i ss) (sym n) in
+    let there = ap (λ i. slice_get ss i) n ∙ h.is_there in
+    let same : (decl_numbering (infos_in k) (known_in k) decl 0).next ≡ (decl_numbering of.main.infos (sizes_of of) of.main.decl 0).next = λ j. (decl_numbering (option_map_or (λ d. d.infos) (there j) []) (found (with_sizes [] (sym before j))) (e j) 0).next in
+    let end = (decl-ends of.main.infos (sizes_of of) of.main.decl).next 0 in
+    let size = main-places of in
+    let few = (fits-measured k.declared.now m h f).places in
+    omega (arith, same, end, size, few)
 
 pub small-occs : (d : Declared) (m : Measured) → IsMeasured d m → FitsIn (program_in d) d.scopes.now d.types.now → m.size.occs < 2 ^ 32
 small-occs d m h f =

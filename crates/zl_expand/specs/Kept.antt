@@ -1,6 +1,6 @@
 -- What the code keeps, in the words of the definitions.
 use Rattle.zl_meaning.specs.declared.block.AutoMove.{AutoMove}
-use Rattle.std.specs.Prelude.{◌≡◌, ℕ, Bool, false, List, [], ◌++◌, length, set, take, None}
+use Rattle.std.specs.Prelude.{◌≡◌, ℕ, ◌^◌, ◌<◌, Bool, false, List, [], ◌++◌, length, set, take, None}
 use Rattle.zl_value.specs.declared.position.Pos.{Pos}
 use Rattle.zl_value.specs.declared.value.Ty.TheVariants.{Bool as BoolTy}
 use Rattle.zl_meaning.specs.declared.block.Block.{Block}
@@ -32,6 +32,10 @@ pub use Rattle.zl_expand.specs.KeptDecls.{scoped_in, infos_in, types_in, known_i
 pub record Numbers (old new : Places) (numbering : Numbering) : Type 0 where
   pub own : new.own.items ≡ old.own.items ++ (numbering old.next).own
   pub next : new.next ≡ (numbering old.next).next
+
+-- So they were where the numbers have 32 bits, also the one behind them.
+pub record NumbersWithin (old new : Places) (numbering : Numbering) : Type 0 where
+  pub within : (numbering old.next).next < 2 ^ 32 → Numbers old new numbering
 
 -- ---- what stands in place of parts that aren't known yet
 

@@ -1,6 +1,7 @@
 //! The declarations of a program, with their variables, by number and by name.
 ghost use Rattle.std.specs.Prelude.{◌≡◌, [], length, map, take};
 ghost use Rattle.zl_flat.specs.Capped.{capped};
+ghost use Rattle.zl_flat.specs.Counted.{NumberingsEnd};
 ghost use Rattle.zl_flat.specs.ScopedDecls.{scoped, with_sizes};
 
 use crate::name_index::NameIndex;
@@ -24,6 +25,7 @@ pub(crate) struct Declared<'a> {
     ghost all_typed: { length types.now ≡ length decls.now },
     ghost of_decls: { index ≡ map (λ d. d.name.id) decls.now },
     ghost of_vars: { vars.items ≡ map (λ infos. map (λ v. v.name) infos) scopes.now },
+    ghost numbered: { NumberingsEnd names.now (scoped decls.now scopes.now types.now) },
 }
 
 /// A declaration, by its number, and the sizes of the declarations before it.

@@ -8,8 +8,9 @@ ghost use Rattle.zl_ast.specs.Scopes as rules;
 ghost use Rattle.zl_flat.specs.Checked.{IsChecked};
 ghost use Rattle.zl_flat.specs.Parts.{joined, nothing, some_definers};
 ghost use Rattle.zl_flat.specs.Expansion.{input_definers, result_place, result_places};
+ghost use Rattle.zl_flat.specs.Numbering.{decl_numbering};
 ghost use Rattle.zl_expand.specs.Kept.{instance_in};
-ghost use Rattle.zl_expand.specs.KeptDecls.{program_in, IsMeasured};
+ghost use Rattle.zl_expand.specs.KeptDecls.{infos_in, known_in, program_in, IsMeasured};
 ghost use Rattle.zl_flat.specs.Limits.{FitsIn, IsExpandRefusedBy};
 ghost use Rattle.zl_flat.specs.Flat.{IsFlatOf};
 ghost use Rattle.zl_expand.specs.Tables.{form_in, main_in, parts_in};
@@ -91,7 +92,8 @@ fn result_places(
 
 /// What `main` expands to, where the hidden occurrences are numbered from `base` on.
 fn walk_main(alloc: Global, known: &Known, decl: &Decl, base: u32) -> Result<Tables, AllocError>
-    requires { HasRoom 2 base nothing (parts_in known.now decl.now base) }
+    requires room { HasRoom 2 base nothing (parts_in known.now decl.now base) }
+    requires numbers { (decl_numbering (infos_in known.now) (known_in known.now) decl.now 0).next < 2 ^ 32 }
     ensures { IfOk result (λ t. form_in t ≡ main_in known.now decl.now base) }
 {
     let own = own_places(alloc, known, decl, 0)?;

@@ -6,6 +6,8 @@ ghost use Rattle.std.specs.List.{position};
 ghost use Rattle.zl_flat.specs.Sizes as spec;
 ghost use Rattle.zl_flat.specs.FirstPlaces.{place_in_text, is_first};
 ghost use Rattle.zl_flat.specs.Capped.{capped};
+ghost use Rattle.zl_flat.specs.Counted.{NumberingsEnd};
+ghost use Rattle.zl_flat.specs.ScopedDecls.{scoped};
 ghost use Rattle.zl_expand.specs.KeptDecls.{infos_in, known_in};
 
 use crate::decls::{Declared, Known};
@@ -50,6 +52,7 @@ impl<'a> Declared<'a> {
     ) -> Result<Declared<'a>, AllocError>
         requires scoped { length scopes.now ≡ length decls.now }
         requires typed { length types.now ≡ length decls.now }
+        requires numbered { NumberingsEnd names.now (scoped decls.now scopes.now types.now) }
         ensures decls { IfOk result (λ d. d.decls.now ≡ decls.now) }
         ensures names { IfOk result (λ d. d.names.now ≡ names.now) }
         ensures scopes { IfOk result (λ d. d.scopes.now ≡ scopes.now) }

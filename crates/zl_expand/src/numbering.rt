@@ -1,10 +1,10 @@
 //! The places of the variables in a copy of a declaration's body.
 #![tactic(auto, using(crate::proofs::NumberingSums::numbering))]
 
-ghost use Rattle.std.specs.Prelude.{◌≡◌, ◌+◌, ◌^◌, ◌<◌, ◌≤◌, ◌++◌, [], map, OnOk, OnErr, IfOk};
+ghost use Rattle.std.specs.Prelude.{◌≡◌, ◌-◌, ◌^◌, ◌<◌, min, map, OnOk, IfOk};
 ghost use Rattle.zl_flat.specs.Numbering as spec;
 ghost use Rattle.zl_flat.specs.Sizes as sizes;
-ghost use Rattle.zl_expand.specs.Kept.{infos_in, known_in, Numbers};
+ghost use Rattle.zl_expand.specs.Kept.{infos_in, known_in, NumbersWithin};
 
 use crate::decls::Known;
 use crate::eqn_size::{cond_size, moves_size, resets_size, start_size};
@@ -13,29 +13,17 @@ use std::alloc::{AllocError, Global};
 use zl_ast::{Arm, Body, Cond, Decl, Eqn, Expr, Move, Name, Param, ResetArm, State};
 use zl_flat::Size;
 
-/// A count as a number of a place; fails exactly where it is past 32 bits, which isn't told from want of memory.
-fn number(count: usize) -> Result<u32, AllocError>
-    ensures is { IfOk result (λ n. n ≡ count) }
-    ensures wide { OnErr result (2 ^ 32 ≤ count) }
+/// A count as a number of a place. One past 32 bits, which no program has that keeps the limits, becomes the greatest.
+fn number(count: usize) -> u32
+    ensures { result ≡ min count (2 ^ 32 - 1) }
 {
     match u32::try_from(count) {
-        Ok(n) => Ok(n),
-        Err(_) => Err(AllocError),
+        Ok(n) => n,
+        Err(_) => u32::MAX,
     }
 }
 
-/// The sum of two numbers; fails exactly where it is past 32 bits, which isn't told from want of memory.
-fn sum(a: u32, b: u32) -> Result<u32, AllocError>
-    ensures is { IfOk result (λ n. n ≡ a + b) }
-    ensures wide { OnErr result (2 ^ 32 ≤ a + b) }
-{
-    match a.checked_add(b) {
-        Some(n) => Ok(n),
-        None => Err(AllocError),
-    }
-}
-
-/// The places of variables so far, and the next place.
+/// The places of variables so far, and the next place. It stays at the greatest number, as sizes do.
 #[derive(Drop)]
 pub(crate) struct Places {
     pub(crate) own: Vec<u32>,
@@ -45,77 +33,68 @@ pub(crate) struct Places {
 impl Places {
     /// The next place is a variable's.
     fn take(&mut self) -> Result<(), AllocError>
-        ensures { OnOk result (Numbers self.old self.new spec.a_variable) }
+        ensures { OnOk result (NumbersWithin self.old self.new spec.a_variable) }
     {
-        let behind = sum(self.next, 1)?;
         self.own.push(self.next)?;
-        self.next = behind;
+        self.next = self.next.saturating_add(1);
         Ok(())
     }
 
     /// The next places are those of calls in what has this size.
-    fn pass(&mut self, size: Size) -> Result<(), AllocError>
-        ensures made { OnOk result (Numbers self.old self.new (spec.of_calls size)) }
-        ensures fits { OnOk result (size.places < 2 ^ 32) }
+    fn pass(&mut self, size: Size)
+        ensures { NumbersWithin self.old self.new (spec.of_calls size) }
     {
-        let places = number(size.places as usize)?;
-        self.next = sum(self.next, places)?;
-        Ok(())
+        let places = number(size.places as usize);
+        self.next = self.next.saturating_add(places);
     }
 }
 
 // The places of calls in parts of a body.
 
 #[tactic(auto, using(crate::proofs::NumberingSums::exact_sizes))]
-fn pass_expr(known: &Known, expr: &Expr, places: &mut Places) -> Result<(), AllocError>
-    ensures { OnOk result (Numbers places.old places.new (spec.of_calls (sizes.expr_size (infos_in known.now) (known_in known.now) expr.now))) }
+fn pass_expr(known: &Known, expr: &Expr, places: &mut Places)
+    ensures { NumbersWithin places.old places.new (spec.of_calls (sizes.expr_size (infos_in known.now) (known_in known.now) expr.now)) }
 {
-    places.pass(expr_size(known, expr))?;
-    Ok(())
+    places.pass(expr_size(known, expr));
 }
 
 #[tactic(auto, using(crate::proofs::NumberingSums::exact_sizes))]
-fn pass_exprs(known: &Known, exprs: &[Expr], places: &mut Places) -> Result<(), AllocError>
-    ensures { OnOk result (Numbers places.old places.new (spec.of_calls (sizes.exprs_size (infos_in known.now) (known_in known.now) exprs.now))) }
+fn pass_exprs(known: &Known, exprs: &[Expr], places: &mut Places)
+    ensures { NumbersWithin places.old places.new (spec.of_calls (sizes.exprs_size (infos_in known.now) (known_in known.now) exprs.now)) }
 {
-    places.pass(exprs_size(known, exprs))?;
-    Ok(())
+    places.pass(exprs_size(known, exprs));
 }
 
 #[tactic(auto, using(crate::proofs::NumberingSums::exact_sizes))]
-fn pass_start(known: &Known, start: &Option<Expr>, places: &mut Places) -> Result<(), AllocError>
-    ensures { OnOk result (Numbers places.old places.new (spec.of_calls (sizes.start_size (infos_in known.now) (known_in known.now) start.now))) }
+fn pass_start(known: &Known, start: &Option<Expr>, places: &mut Places)
+    ensures { NumbersWithin places.old places.new (spec.of_calls (sizes.start_size (infos_in known.now) (known_in known.now) start.now)) }
 {
-    places.pass(start_size(known, start))?;
-    Ok(())
+    places.pass(start_size(known, start));
 }
 
 #[tactic(auto, using(crate::proofs::NumberingSums::exact_sizes))]
-fn pass_resets(known: &Known, resets: &[ResetArm], places: &mut Places) -> Result<(), AllocError>
-    ensures { OnOk result (Numbers places.old places.new (spec.of_calls (sizes.total (map (sizes.reset_arm_size (infos_in known.now) (known_in known.now)) resets.now)))) }
+fn pass_resets(known: &Known, resets: &[ResetArm], places: &mut Places)
+    ensures { NumbersWithin places.old places.new (spec.of_calls (sizes.total (map (sizes.reset_arm_size (infos_in known.now) (known_in known.now)) resets.now))) }
 {
-    places.pass(resets_size(known, resets))?;
-    Ok(())
+    places.pass(resets_size(known, resets));
 }
 
 #[tactic(auto, using(crate::proofs::NumberingSums::exact_sizes))]
-fn pass_cond(known: &Known, cond: &Cond, places: &mut Places) -> Result<(), AllocError>
-    ensures { OnOk result (Numbers places.old places.new (spec.of_calls (sizes.cond_size (infos_in known.now) (known_in known.now) cond.now))) }
+fn pass_cond(known: &Known, cond: &Cond, places: &mut Places)
+    ensures { NumbersWithin places.old places.new (spec.of_calls (sizes.cond_size (infos_in known.now) (known_in known.now) cond.now)) }
 {
-    places.pass(cond_size(known, cond))?;
-    Ok(())
+    places.pass(cond_size(known, cond));
 }
 
 #[tactic(auto, using(crate::proofs::NumberingSums::exact_sizes))]
-fn pass_moves(known: &Known, moves: &[Move], places: &mut Places) -> Result<(), AllocError>
-    ensures { OnOk result (Numbers places.old places.new (spec.of_calls (sizes.total (map (sizes.move_size (infos_in known.now) (known_in known.now)) moves.now)))) }
+fn pass_moves(known: &Known, moves: &[Move], places: &mut Places)
+    ensures { NumbersWithin places.old places.new (spec.of_calls (sizes.total (map (sizes.move_size (infos_in known.now) (known_in known.now)) moves.now))) }
 {
-    places.pass(moves_size(known, moves))?;
-    Ok(())
+    places.pass(moves_size(known, moves));
 }
 
 fn number_name(known: &Known, name: Name, places: &mut Places) -> Result<(), AllocError>
-    ensures { OnOk result (Numbers places.old places.new (spec.of_name (infos_in known.now) (known_in known.now) name)) }
+    ensures { OnOk result (NumbersWithin places.old places.new (spec.of_name (infos_in known.now) (known_in known.now) name)) }
 {
     if known.is_first(name) {
         places.take()
@@ -125,7 +104,7 @@ fn number_name(known: &Known, name: Name, places: &mut Places) -> Result<(), All
 }
 
 fn number_names(known: &Known, names: &[Name], places: &mut Places) -> Result<(), AllocError>
-    ensures { OnOk result (Numbers places.old places.new (spec.of_names (infos_in known.now) (known_in known.now) names.now)) }
+    ensures { OnOk result (NumbersWithin places.old places.new (spec.of_names (infos_in known.now) (known_in known.now) names.now)) }
 {
     for name in names {
         number_name(known, *name, places)?;
@@ -135,12 +114,13 @@ fn number_names(known: &Known, names: &[Name], places: &mut Places) -> Result<()
 
 #[cycle(numbering)]
 fn number_eqn(known: &Known, eqn: &Eqn, places: &mut Places) -> Result<(), AllocError>
-    ensures { OnOk result (Numbers places.old places.new (spec.eqn_numbering (infos_in known.now) (known_in known.now) eqn.now)) }
+    ensures { OnOk result (NumbersWithin places.old places.new (spec.eqn_numbering (infos_in known.now) (known_in known.now) eqn.now)) }
 {
     match eqn {
         Eqn::Plain { left, right } => {
             number_names(known, left.as_slice(), places)?;
-            pass_expr(known, right, places)
+            pass_expr(known, right, places);
+            Ok(())
         }
         Eqn::Der {
             name,
@@ -150,13 +130,15 @@ fn number_eqn(known: &Known, eqn: &Eqn, places: &mut Places) -> Result<(), Alloc
             ..
         } => {
             number_name(known, *name, places)?;
-            pass_expr(known, slope, places)?;
-            pass_start(known, start, places)?;
-            pass_resets(known, resets.as_slice(), places)
+            pass_expr(known, slope, places);
+            pass_start(known, start, places);
+            pass_resets(known, resets.as_slice(), places);
+            Ok(())
         }
         Eqn::Start { name, value, .. } => {
             number_name(known, *name, places)?;
-            pass_expr(known, value, places)
+            pass_expr(known, value, places);
+            Ok(())
         }
         Eqn::Present { arms, other, .. } => {
             number_arms(known, arms.as_slice(), places)?;
@@ -168,14 +150,15 @@ fn number_eqn(known: &Known, eqn: &Eqn, places: &mut Places) -> Result<(), Alloc
         Eqn::Automaton { states, .. } => number_states(known, states.as_slice(), places),
         Eqn::Reset { eqs, cond, .. } => {
             number_eqns(known, eqs.as_slice(), places)?;
-            pass_cond(known, cond, places)
+            pass_cond(known, cond, places);
+            Ok(())
         }
     }
 }
 
 #[cycle(numbering)]
 fn number_eqns(known: &Known, eqns: &[Eqn], places: &mut Places) -> Result<(), AllocError>
-    ensures { OnOk result (Numbers places.old places.new (spec.in_turn (map (spec.eqn_numbering (infos_in known.now) (known_in known.now)) eqns.now))) }
+    ensures { OnOk result (NumbersWithin places.old places.new (spec.in_turn (map (spec.eqn_numbering (infos_in known.now) (known_in known.now)) eqns.now))) }
 {
     for eqn in eqns {
         number_eqn(known, eqn, places)?;
@@ -185,10 +168,10 @@ fn number_eqns(known: &Known, eqns: &[Eqn], places: &mut Places) -> Result<(), A
 
 #[cycle(numbering)]
 fn number_arms(known: &Known, arms: &[Arm], places: &mut Places) -> Result<(), AllocError>
-    ensures { OnOk result (Numbers places.old places.new (spec.in_turn (map (spec.arm_numbering (infos_in known.now) (known_in known.now)) arms.now))) }
+    ensures { OnOk result (NumbersWithin places.old places.new (spec.in_turn (map (spec.arm_numbering (infos_in known.now) (known_in known.now)) arms.now))) }
 {
     for arm in arms {
-        pass_cond(known, &arm.cond, places)?;
+        pass_cond(known, &arm.cond, places);
         number_body(known, &arm.body, places)?;
     }
     Ok(())
@@ -196,7 +179,7 @@ fn number_arms(known: &Known, arms: &[Arm], places: &mut Places) -> Result<(), A
 
 #[cycle(numbering)]
 fn number_body(known: &Known, body: &Body, places: &mut Places) -> Result<(), AllocError>
-    ensures { OnOk result (Numbers places.old places.new (spec.body_numbering (infos_in known.now) (known_in known.now) body.now)) }
+    ensures { OnOk result (NumbersWithin places.old places.new (spec.body_numbering (infos_in known.now) (known_in known.now) body.now)) }
 {
     number_names(known, body.locals.as_slice(), places)?;
     number_eqns(known, body.eqs.as_slice(), places)
@@ -204,17 +187,17 @@ fn number_body(known: &Known, body: &Body, places: &mut Places) -> Result<(), Al
 
 #[cycle(numbering)]
 fn number_states(known: &Known, states: &[State], places: &mut Places) -> Result<(), AllocError>
-    ensures { OnOk result (Numbers places.old places.new (spec.in_turn (map (spec.state_numbering (infos_in known.now) (known_in known.now)) states.now))) }
+    ensures { OnOk result (NumbersWithin places.old places.new (spec.in_turn (map (spec.state_numbering (infos_in known.now) (known_in known.now)) states.now))) }
 {
     for state in states {
         number_body(known, &state.body, places)?;
-        pass_moves(known, state.moves.as_slice(), places)?;
+        pass_moves(known, state.moves.as_slice(), places);
     }
     Ok(())
 }
 
 fn number_params(params: &[Param], places: &mut Places) -> Result<(), AllocError>
-    ensures { OnOk result (Numbers places.old places.new (spec.in_turn (map (λ p. spec.a_variable) params.now))) }
+    ensures { OnOk result (NumbersWithin places.old places.new (spec.in_turn (map (λ p. spec.a_variable) params.now))) }
 {
     for _param in params {
         places.take()?;
@@ -230,6 +213,7 @@ pub(crate) fn own_places(
     decl: &Decl,
     next: u32,
 ) -> Result<Vec<u32>, AllocError>
+    requires { (spec.decl_numbering (infos_in known.now) (known_in known.now) decl.now next).next < 2 ^ 32 }
     ensures { IfOk result (λ own. own.items ≡ (spec.decl_numbering (infos_in known.now) (known_in known.now) decl.now next).own) }
 {
     let mut places = Places {
@@ -237,7 +221,7 @@ pub(crate) fn own_places(
         next,
     };
     number_params(decl.params.as_slice(), &mut places)?;
-    pass_exprs(known, decl.results.as_slice(), &mut places)?;
+    pass_exprs(known, decl.results.as_slice(), &mut places);
     number_eqns(known, decl.eqs.as_slice(), &mut places)?;
     Ok(places.own)
 }

@@ -8,7 +8,7 @@ use Rattle.zl_flat.specs.ScopedDecls.{with_sizes}
 use Rattle.zl_expand.specs.KeptDecls.{scoped_in, program_in, IsMeasured}
 use Rattle.zl_flat.specs.Flat.{IsFlatOf}
 use Rattle.zl_expand.proofs.LimitLemmas.{sizes-whole, scoped-decl}
-use Rattle.zl_expand.proofs.ExpandLemmas.{is-flat, of-tables, small-occs, main-room}
+use Rattle.zl_expand.proofs.ExpandLemmas.{is-flat, of-tables, small-occs, main-room, main-numbers}
 use Rattle.zl_expand.proofs.expansion.expand_main.Goals as goal
 
 -- the sizes that were measured are those of the declarations before `main`
@@ -36,8 +36,8 @@ returns c =
 pub number-base-requires : goal.number-base-requires
 number-base-requires c = small-occs c.args.declared.now c.args.measured.now c.requires.measured c.requires.fits
 
-pub walk_main-requires : goal.walk_main-requires
-walk_main-requires c =
+pub walk_main-requires-clause-room : goal.walk_main-requires-clause-room
+walk_main-requires-clause-room c =
     let d = c.args.declared.now in
     let m = c.args.measured.now in
     let h = c.requires.measured in
@@ -46,3 +46,13 @@ walk_main-requires c =
     let k : Known = record { declared = c.args.declared; sizes = c.as_slice.result; number = m.main; sized = its-sizes d m c.as_slice.result.now h same } in
     let decl = scoped-decl d.decls.now d.scopes.now d.types.now m.main h.of.main h.is_there c.index-declared-measured.result in
     main-room k m (get_or d.decls.now m.main c.index-declared-measured.result) c.number-base.result h refl decl base c.requires.fits c.requires.scopes c.requires.checked
+
+pub walk_main-requires-clause-numbers : goal.walk_main-requires-clause-numbers
+walk_main-requires-clause-numbers c =
+    let d = c.args.declared.now in
+    let m = c.args.measured.now in
+    let h = c.requires.measured in
+    let same : c.as_slice.result.now ≡ c.args.measured.now.sizes.items = search rules in
+    let k : Known = record { declared = c.args.declared; sizes = c.as_slice.result; number = m.main; sized = its-sizes d m c.as_slice.result.now h same } in
+    let decl = scoped-decl d.decls.now d.scopes.now d.types.now m.main h.of.main h.is_there c.index-declared-measured.result in
+    main-numbers k m (get_or d.decls.now m.main c.index-declared-measured.result) h refl decl c.requires.fits

@@ -33,7 +33,7 @@ returns c =
     same-form c.make_tables.result _ _ (main-formed i d c.walk_body.new.out c.in_ok-ins.ins.items c.in_ok-outs.outs.items refl own made ins outs) c.make_tables.ensures
 
 pub add_block-requires : goal.add_block-requires
-add_block-requires c = grind (arith, room_laws)
+add_block-requires c = let room = c.requires.room in grind (arith, room_laws)
 
 pub add_inputs-requires : goal.add_inputs-requires
 add_inputs-requires c =
@@ -41,7 +41,7 @@ add_inputs-requires c =
     let their_params : c.as_slice-3.result.now ≡ d.params = search rules in
     let few = params-in c.args.known.now d c.args.base in
     let same = ap length their_params in
-    let room = c.requires in
+    let room = c.requires.room in
     omega (arith, few, same, room)
 
 pub walk_body-requires : goal.walk_body-requires
@@ -58,4 +58,4 @@ walk_body-requires c =
     let inputs : c.add_inputs.new.out ≡ joined c.add_params.new.out (some_definers (input_definers 0 d.params)) = search rules in
     let o3 = c.add_inputs.new.out in
     let same = main-made i d c.is_hybrid-hybrid.result c.add_block.new.self c.add_params.new.out o3 (joined o3 (inside_in i d here (counters o3)).parts) refl own hybrid block params inputs refl in
-    rest-room 2 c.args.base o3 (inside_in i d here (counters o3)).parts _ same c.requires
+    rest-room 2 c.args.base o3 (inside_in i d here (counters o3)).parts _ same c.requires.room

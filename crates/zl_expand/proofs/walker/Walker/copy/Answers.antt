@@ -6,7 +6,7 @@ use Rattle.zl_expand.specs.Kept.{instance_in}
 use Rattle.zl_expand.proofs.CopyLemmas.{fewer-sized}
 use Rattle.zl_expand.proofs.KnownLemmas.{uncut-none, uncut-later}
 use Rattle.zl_expand.proofs.LimitLemmas.{HasScoped, scoped-there}
-use Rattle.zl_expand.proofs.CopyMade.{IsCalled, IsMissing, instance-of, params-room, inside-room, made-ok, results-ok, missing-parts, missing-results}
+use Rattle.zl_expand.proofs.CopyMade.{IsCalled, IsMissing, instance-of, numbers-room, params-room, inside-room, made-ok, results-ok, missing-parts, missing-results}
 use Rattle.zl_expand.proofs.walker.Walker.copy.Goals as goal
 
 pub returns-in_default-clause-made : goal.returns-in_default-clause-made
@@ -81,6 +81,18 @@ returns g c =
     let made = made-ok i j c.args.name c.in-Some.number c.next_place-first.result decl c.args.here c.args.arguments.now c.args.out.now called c.add_params.new.out c.add_arguments.new.out c.walk_body.new.out params given c.walk_body.result c.walk_body.ensures.made in
     let results = results-ok i j c.args.name c.in-Some.number c.next_place-first.result decl c.args.here c.args.arguments.now c.args.out.now called c.add_params.new.out c.add_arguments.new.out c.walk_body.new.out params given (λ v. v.items) c.walk_body.result c.walk_body.ensures.results in
     record { made = made; results = results }
+
+pub own_places-requires : goal.own_places-requires
+own_places-requires g c =
+    let i = c.args.instance.now in
+    let d = i.known.now.declared.now in
+    let before : c.in-Some.number < i.known.now.number = search rules in
+    let found : Some c.in-Some.number ≡ c.find.result = search rules in
+    let within : c.in-Some.number < length d.decls.now = search rules in
+    let decl = c.index-decls-number.result in
+    let read : get_or d.decls.now c.in-Some.number decl ≡ decl = search rules in
+    let there = subst (λ y. HasScoped (scoped_in d) c.in-Some.number y) read (scoped-there d.decls.now d.scopes.now d.types.now c.in-Some.number decl d.all_scoped d.all_typed within) in
+    numbers-room i c.args.name c.in-Some.number c.next_place-first.result decl c.args.here c.args.arguments.now c.args.out.now (c.args.self.now.depth + 2) before (found ∙ c.find.ensures.is) there c.next_place-first.ensures c.requires.room
 
 pub add_arguments-requires : goal.add_arguments-requires
 add_arguments-requires g c =
