@@ -1,0 +1,7 @@
+use Rattle.std.proofs.Common.{refl}
+use Rattle.zl_grade.specs.Worked.StillOverMoving.{form, grading}
+use Rattle.zl_grade.proofs.GradeCheck.{none-over}
+use Rattle.zl_grade.proofs.worked.still_over_moving.Goals as goal
+
+pub returns : goal.returns
+returns c = none-over form grading (record { occs_length = refl; places_length = refl; plain = refl; occs = refl; places = refl }) refl

@@ -1,0 +1,15 @@
+pub mod Apart
+pub mod Chains
+pub mod Children
+pub mod Closed
+pub mod Equations
+pub mod Graded
+pub mod Links
+pub mod Marks
+pub mod Needs
+pub mod Numbered
+pub mod Outcome
+pub mod Reached
+pub mod Refused
+pub mod Table
+pub mod Worked
