@@ -1,0 +1,4 @@
+pub mod FlowDurations
+pub mod LineRoots
+pub mod LineSteps
+pub mod SiteCourses
