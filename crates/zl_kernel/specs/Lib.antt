@@ -1,0 +1,13 @@
+pub mod KernelForm
+pub mod WellFormed
+pub mod FlowWires
+pub mod Wires
+pub mod Faults
+pub mod Memories
+pub mod Missing
+pub mod Motions
+pub mod System
+pub mod Shown
+pub mod WireRanks
+pub mod Laws
+pub mod Worked
