@@ -1,0 +1,15 @@
+pub mod AnswerLemmas
+pub mod AssignmentLemmas
+pub mod CutLemmas
+pub mod FaultLemmas
+pub mod FitsLemmas
+pub mod ItemLemmas
+pub mod LineLemmas
+pub mod ListLemmas
+pub mod NameLemmas
+pub mod NumberLemmas
+pub mod ReadLemmas
+pub mod SetLemmas
+pub mod TableLemmas
+pub mod TextLemmas
+pub mod TimeLemmas

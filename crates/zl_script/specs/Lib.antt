@@ -1,0 +1,11 @@
+pub mod Answer
+pub mod Assignments
+pub mod Cut
+pub mod Faults
+pub mod Grammar
+pub mod Items
+pub mod Lists
+pub mod Marks
+pub mod Numbers
+pub mod Parsed
+pub mod Worked
