@@ -1,0 +1,15 @@
+pub mod Wiring
+pub mod KernelParts
+pub mod Guards
+pub mod FormWires
+pub mod UseGuards
+pub mod Evaluated
+pub mod Starts
+pub mod PlaceWires
+pub mod SiteWires
+pub mod SlopeWires
+pub mod Interface
+pub mod MainBlock
+pub mod Normal
+pub mod Laws
+pub mod Worked

@@ -1,0 +1,2 @@
+-- Worked normal forms.
+pub mod SawTooth

@@ -1,0 +1,7 @@
+//! Laws of the definitions. Each is a function without a body, whose contract is the law.
+ghost use Rattle.zl_normal.specs.Laws.{NormalFormKeepsRuns};
+
+/// Each run of a normal form is one of its form: with the same times, marks and faults, and the same is printed of it.
+pub fn normal_form_keeps_runs()
+    ensures { NormalFormKeepsRuns }
+{}
