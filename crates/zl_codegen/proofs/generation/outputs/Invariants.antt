@@ -1,0 +1,6 @@
+-- What was made so far.
+use Rattle.std.specs.Prelude.{◌≡◌, take}
+use Rattle.zl_codegen.proofs.generation.outputs.Given as goal
+
+abbrev pub invariant-loop-i : goal.invariant-loop-i
+invariant-loop-i l = l.made.items ≡ take l.i l.outs

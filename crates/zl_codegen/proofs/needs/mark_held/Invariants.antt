@@ -1,0 +1,10 @@
+-- The marks of what is left lead to all.
+use Rattle.std.specs.Prelude.{◌≡◌, drop}
+use Rattle.std.specs.List.{flat_map}
+use Rattle.zl_kernel.specs.declared.wire.Wire.{Wire}
+use Rattle.zl_codegen.specs.Needs.{marked, memory_in}
+use Rattle.zl_codegen.proofs.needs.mark_held.Given as goal
+
+abbrev pub invariant-loop-i : goal.invariant-loop-i
+invariant-loop-i l =
+    marked (flat_map (λ (wire : Wire). memory_in wire.def) (drop l.i l.wires)) l.marks ≡ marked (flat_map (λ (wire : Wire). memory_in wire.def) l.wires) l.initial.marks

@@ -1,0 +1,32 @@
+-- What is proved of the code of an order, for all kernels.
+use Rattle.std.specs.Prelude.{◌≡◌, ℕ, ◌<◌, true, false, if◌then◌else◌, List, Bool, [], length, get_or, slice_get, Some, None}
+use Rattle.zl_value.specs.Lists.{Has, among}
+use Rattle.zl_kernel.specs.KernelForm.{KernelForm}
+use Rattle.zl_kernel.specs.FlowWires.{reads}
+use Rattle.zl_kernel.specs.WellFormed.{IsWellFormed}
+use Rattle.zl_kernel.specs.Wires.{Registers, held, Mode, is_at_step, Moment, turn}
+use Rattle.zl_kernel.specs.declared.wire.Def.TheVariants.{Mem}
+use Rattle.zl_kernel.specs.declared.wire.Wire.{Wire}
+use Rattle.zl_code.specs.Method.{cell, Given, method}
+use Rattle.zl_codegen.specs.Orders.{IsOrder}
+use Rattle.zl_codegen.specs.Needs.{is_marked, is_taken, needs, left_out}
+use Rattle.zl_codegen.specs.Statements.{body}
+
+-- a method is given what the wires read: the inputs, of the memories those that some wire holds, and at a step which sites fired
+pub record IsGiven (k : KernelForm) (m : Moment) (g : Given) : Type 0 where
+  pub inputs : g.inputs ≡ m.inputs
+  pub mems : (n j : ℕ) (wire : Wire) → slice_get k.wires n ≡ Some wire → wire.def ≡ Mem j → cell g.mems j ≡ held m.memories j
+  pub events : (site : ℕ) → is_at_step m.mode ≡ true → get_or g.events site false ≡ among site m.fired
+
+-- all that a method's wires read is marked
+pub record IsClosed (k : KernelForm) (mode : Mode) (marks : List Bool) : Type 0 where
+  pub reads : (n j : ℕ) (wire : Wire) → slice_get k.wires n ≡ Some wire → is_taken marks (left_out k mode) n ≡ true → Has (reads wire) j → is_marked marks j ≡ true
+
+-- after the statements of marked wires the register of each that is solved holds what the kernel says, and every other one is
+-- empty: whatever the order
+abbrev pub MethodsSolve : Type 0
+MethodsSolve = (k : KernelForm) (list : List ℕ) → IsWellFormed k → IsOrder k list → (m : Moment) (r : Registers) → r ≡ turn k m r → (g : Given) → IsGiven k m g → (marks : List Bool) → IsClosed k m.mode marks → (n : ℕ) → n < length k.wires → cell (method (length k.wires) (body k.wires (is_at_step m.mode) marks (left_out k m.mode) [] list []) g).regs n ≡ (if is_taken marks (left_out k m.mode) n then held r n else None)
+
+-- the wires that a method needs are such
+abbrev pub NeedsAreClosed : Type 0
+NeedsAreClosed = (k : KernelForm) (list : List ℕ) → IsWellFormed k → IsOrder k list → (mode : Mode) → IsClosed k mode (needs k mode list)

@@ -1,0 +1,3 @@
+-- Worked codes of orders.
+pub mod SawTooth
+pub mod Nested
