@@ -1,5 +1,4 @@
-mod LaterRefusals
-mod NamesRefusals
+mod Loads
 mod Reports
 mod ThinExpansion
 mod ThinMeaning

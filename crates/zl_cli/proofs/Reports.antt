@@ -17,10 +17,17 @@ use Rattle.zl_cli.specs.declared.load.Stop.{Stop}
 use Rattle.zl_cli.specs.declared.load.Stop.TheVariants as stop
 use Rattle.zl_cli.specs.declared.status.Status.{Status}
 use Rattle.zl_cli.specs.declared.status.Status.TheVariants as status
-use Rattle.zl_cli.specs.Files.{GivesProgram, LoadsProgram, LoadsHorizon, read_cap}
-use Rattle.zl_cli.specs.Report.{Asks, Call, check_call, run_call, IsReport, IsAnswer, RunsTo, AllRead, Tells, FileIs, run_status}
+use Rattle.zl_cli.specs.Files.{LoadsChecked, LoadsProgram, LoadsHorizon, IsNotRun, read_cap}
+use Rattle.zl_cli.specs.Report.{Asks, Call, check_call, run_call, IsReport, IsAnswer, IsRefused, RunsTo, AllRead, Tells, FileIs, run_status}
 use Rattle.zl_cli.specs.Steps.{TellsStop, TellsRun}
 use Rattle.zl_cli.specs.Texts.{ok_line, refusal_line, script_line, read_fault_line, no_memory_line}
+
+-- a file that isn't run is refused
+not_run : (told : Option FileMap) (before now : List (List ℕ)) (file script bytes : List ℕ) (rule : Rule) (at : Pos)
+    → HoldsFile told file read_cap bytes → IsNotRun bytes rule at → IsRefused (run_call told before now file script) file rule at
+not_run told before now file script bytes rule at holds (inl breaks) = inl (inr (script, refl), (bytes, holds, breaks))
+not_run told before now file script bytes rule at holds (inr unbuilt) =
+    inr (script, refl, (bytes, holds, unbuilt.0), unbuilt.1, unbuilt.2)
 
 -- the file gave nothing to go on with
 pub file_stopped : (told : Option FileMap) (before now : List (List ℕ)) (file script : List ℕ)
@@ -30,7 +37,8 @@ pub file_stopped : (told : Option FileMap) (before now : List (List ℕ)) (file 
 file_stopped told before now file script was is fw fi result stop.Unread loads tells =
     (status.ReadFault, read_fault_line, (refl, inl (file, inr (script, refl), loads)), tells)
 file_stopped told before now file script was is fw fi result (stop.Refused rule at) loads (inl tells) =
-    (status.RefusedFile, refusal_line rule at, (loads.0, (file, rule, at, inr (script, refl), loads.1, refl)), tells)
+    let its = loads.1 in
+    (status.RefusedFile, refusal_line rule at, (loads.0, (file, rule, at, not_run told before now file script its.0 rule at its.1 its.2, refl)), tells)
 file_stopped told before now file script was is fw fi result (stop.Refused rule at) loads (inr tells) =
     (status.NoMemory, no_memory_line, (loads.0, (file, inr (script, refl)), refl), tells)
 file_stopped told before now file script was is fw fi result stop.Memory loads tells =
@@ -98,14 +106,6 @@ horizon_as told told' before mid now name r same read loads =
     subst (λ (files : Option FileMap). LoadsHorizon files before now name r) same
     (subst (λ (failed : List (List ℕ)). LoadsHorizon told' failed now name r) read loads)
 
--- what the bytes of a file answer is what reading them does
-pub loads_program : (told : Option FileMap) (before now : List (List ℕ)) (name bytes : List ℕ) (r : Result Thin Stop)
-    → now ≡ before → HoldsFile told name read_cap bytes → GivesProgram bytes r → LoadsProgram told before now name r
-loads_program told before now name bytes (Ok thin) read holds gives = (read, (bytes, holds, gives))
-loads_program told before now name bytes (Err (stop.Refused rule at)) read holds gives = (read, (bytes, holds, gives))
-loads_program told before now name bytes (Err stop.Unread) read holds gives = absurd gives
-loads_program told before now name bytes (Err stop.Memory) read holds gives = read
-
 -- a list of three words is these
 pub three_words : {X : Type 0} (f : X → List ℕ) (words : List X) (a b c : X) → 3 ≤ length words → length words < 4
     → a ≡ get_or words 0 a → b ≡ get_or words 1 b → c ≡ get_or words 2 c → map f words ≡ f a ∷ f b ∷ f c ∷ []
@@ -139,12 +139,12 @@ check_words f words a b verb file all first is second =
 -- a file that is checked gave nothing to go on with
 pub check_stopped : (told : Option FileMap) (before now : List (List ℕ)) (file : List ℕ)
     (was is : StandsFor) (faults_was faults_is : ℕ) (result : Status) (why : Stop)
-    → LoadsProgram told before now file (Err why) → TellsStop was is faults_was faults_is why result
+    → LoadsChecked told before now file (Err why) → TellsStop was is faults_was faults_is why result
     → IsReport (check_call told before now file) was is faults_was faults_is result
 check_stopped told before now file was is fw fi result stop.Unread loads tells =
     (status.ReadFault, read_fault_line, (refl, inl (file, inl refl, loads)), tells)
 check_stopped told before now file was is fw fi result (stop.Refused rule at) loads (inl tells) =
-    (status.RefusedFile, refusal_line rule at, (loads.0, (file, rule, at, inl refl, loads.1, refl)), tells)
+    (status.RefusedFile, refusal_line rule at, (loads.0, (file, rule, at, inl (inl refl, loads.1), refl)), tells)
 check_stopped told before now file was is fw fi result (stop.Refused rule at) loads (inr tells) =
     (status.NoMemory, no_memory_line, (loads.0, (file, inl refl), refl), tells)
 check_stopped told before now file was is fw fi result stop.Memory loads tells =
@@ -152,11 +152,11 @@ check_stopped told before now file was is fw fi result stop.Memory loads tells =
 
 -- a file that is checked breaks no rule
 pub checks_out : (told : Option FileMap) (before now : List (List ℕ)) (file : List ℕ)
-    (was is : StandsFor) (faults_was faults_is : ℕ) (result : Status) (thin : Thin)
-    → LoadsProgram told before now file (Ok thin) → Tells was is faults_was faults_is status.Done ok_line result
+    (was is : StandsFor) (faults_was faults_is : ℕ) (result : Status)
+    → LoadsChecked told before now file (Ok tt) → Tells was is faults_was faults_is status.Done ok_line result
     → IsReport (check_call told before now file) was is faults_was faults_is result
-checks_out told before now file was is fw fi result thin loads tells =
-    (status.Done, ok_line, (loads.0, inl (file, thin, refl, loads.1, refl)), tells)
+checks_out told before now file was is fw fi result loads tells =
+    (status.Done, ok_line, (loads.0, inl (file, refl, loads.1, refl)), tells)
 
 -- two words of which the first isn't `check` ask for nothing
 pub no_check : (words : List (List ℕ)) (verb file : List ℕ) → words ≡ verb ∷ file ∷ [] → bytes_eq verb (codes "check") ≡ false

@@ -7,5 +7,4 @@ pub mod Steps
 pub mod Texts
 pub mod ThinMeaning
 pub mod ThinTree
-pub mod TreeRules
 pub mod ThinExpansion

@@ -8,6 +8,7 @@ use Rattle.zl_outside.specs.Writes.{Writes}
 use Rattle.zl_value.specs.Fraction.{Fraction}
 use Rattle.zl_value.specs.declared.position.Pos.{Pos}
 use Rattle.zl_value.specs.declared.rule.Rule.{Rule}
+use Rattle.zl_value.specs.declared.rule.Rule.TheVariants.{Unbuilt}
 use Rattle.zl_value.specs.declared.script.Ending.{Ending}
 use Rattle.zl_value.specs.declared.script.Ending.TheVariants.{Horizon, Bound, Empty as NoValue, Fault as EndsInFault}
 use Rattle.zl_value.specs.declared.thin.Thin.{Thin}
@@ -15,7 +16,10 @@ use Rattle.zl_driver.specs.HorizonScript.{horizon_of}
 use Rattle.zl_driver.specs.ThinRun.{thin_lines, thin_end}
 use Rattle.zl_cli.specs.declared.status.Status.{Status}
 use Rattle.zl_cli.specs.declared.status.Status.TheVariants as status
-use Rattle.zl_cli.specs.Files.{Breaks, IsProgram, read_cap}
+use Rattle.zl_compile.specs.Accepts.{BreaksNoRule}
+use Rattle.zl_compile.specs.Breaks.{Breaks}
+use Rattle.zl_compile.specs.FileText.{file_start}
+use Rattle.zl_cli.specs.Files.{HasThin, read_cap}
 use Rattle.zl_cli.specs.Texts.{ok_line, refusal_line, script_line, usage_line, read_fault_line, no_memory_line}
 
 -- the words `check FILE`
@@ -59,9 +63,22 @@ IsUnread call name = call.failed_now ≡ call.failed_before ++ name ∷ []
 abbrev pub FileBreaks : Call → List ℕ → Rule → Pos → Type 0
 FileBreaks call name rule at = (bytes : List ℕ) × HoldsFile call.told name read_cap bytes × Breaks bytes rule at
 
--- the file of this name breaks no rule, and this is its program
+abbrev pub FileBreaksNoRule : Call → List ℕ → Type 0
+FileBreaksNoRule call name = (bytes : List ℕ) × HoldsFile call.told name read_cap bytes × BreaksNoRule bytes
+
+-- the file of this name breaks no rule, and this is its program; `None` where its form isn't built
+abbrev pub FileHas : Call → List ℕ → Option Thin → Type 0
+FileHas call name thin = (bytes : List ℕ) × HoldsFile call.told name read_cap bytes × HasThin bytes thin
+
 abbrev pub FileIs : Call → List ℕ → Thin → Type 0
-FileIs call name thin = (bytes : List ℕ) × HoldsFile call.told name read_cap bytes × IsProgram bytes thin
+FileIs call name thin = FileHas call name (Some thin)
+
+-- the file of this name is refused by this rule, at this place: the first that it breaks or, where it breaks none and is to be
+-- run, that its form isn't built
+abbrev pub IsRefused : Call → List ℕ → Rule → Pos → Type 0
+IsRefused call file rule at =
+    (Asks call.words file × FileBreaks call file rule at)
+    ⊎ ((script : List ℕ) × IsRun call.words file script × FileHas call file None × (rule ≡ Unbuilt) × (at ≡ file_start))
 
 abbrev pub ScriptIs : Call → List ℕ → Option Fraction → Type 0
 ScriptIs call name horizon = (bytes : List ℕ) × HoldsFile call.told name read_cap bytes × (horizon_of bytes ≡ horizon)
@@ -81,7 +98,7 @@ RunsTo call status text = (file : List ℕ) × (script : List ℕ) × (thin : Th
 
 -- the file is checked and breaks no rule
 abbrev pub ChecksOut : Call → List ℕ → Type 0
-ChecksOut call text = (file : List ℕ) × (thin : Thin) × IsCheck call.words file × FileIs call file thin × (text ≡ ok_line)
+ChecksOut call text = (file : List ℕ) × IsCheck call.words file × FileBreaksNoRule call file × (text ≡ ok_line)
 
 -- What a call answers, by its status, and the text of the answer. The statuses come in this order: the words; reading
 -- the file; its refusal; reading the script; its refusal; the run. Want of memory may come at any of these.
@@ -92,8 +109,7 @@ IsAnswer call status.ReadFault text =
     (text ≡ read_fault_line) × (((file : List ℕ) × Asks call.words file × IsUnread call file)
     ⊎ ((file : List ℕ) × (script : List ℕ) × (thin : Thin) × IsRun call.words file script × FileIs call file thin × IsUnread call script))
 IsAnswer call status.RefusedFile text =
-    AllRead call × ((file : List ℕ) × (rule : Rule) × (at : Pos) × Asks call.words file
-    × FileBreaks call file rule at × (text ≡ refusal_line rule at))
+    AllRead call × ((file : List ℕ) × (rule : Rule) × (at : Pos) × IsRefused call file rule at × (text ≡ refusal_line rule at))
 IsAnswer call status.RefusedScript text =
     AllRead call × ((file : List ℕ) × (script : List ℕ) × (thin : Thin) × IsRun call.words file script
     × FileIs call file thin × ScriptIs call script None × (text ≡ script_line))

@@ -4,7 +4,6 @@
 mod command;
 mod laws;
 mod load;
-mod rules;
 mod status;
 mod tell;
 #[cfg(test)]

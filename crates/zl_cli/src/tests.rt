@@ -15,6 +15,8 @@ const TOO_WIDE: &[u8] = b"let hybrid main() = x where rec der x = 92233720368547
 
 const TOO_SMALL: &[u8] = b"let hybrid main() = x where rec der x = 1e-19 init 0.0";
 
+const OTHER: &[u8] = b"let hybrid main() = x where rec x = 1.0";
+
 const CUT: &[u8] = b"let hybrid main() = x where rec der x = 1.0 init";
 
 const USAGE: &[u8] =
@@ -94,12 +96,13 @@ fn increment_past_the_width_is_a_fault(rt: HostRuntime) {
 }
 
 #[test]
-fn other_forms_are_refused(rt: HostRuntime) {
+fn other_forms_keep_the_rules_and_are_not_run(rt: HostRuntime) {
+    assert_check(&rt, rt.alloc(), OTHER, Status::Done, b"ok\n");
     let text = b"refused unbuilt 1:1\n";
     assert_run(
         &rt,
         rt.alloc(),
-        b"let hybrid main() = x where rec x = 1.0",
+        OTHER,
         b"horizon 1\n",
         Status::RefusedFile,
         text,
@@ -200,6 +203,20 @@ fn rules_behind_the_names_are_refused_at_their_place(rt: HostRuntime) {
         Status::RefusedFile,
         b"refused init 1:37\n",
     );
+    assert_check(
+        &rt,
+        rt.alloc(),
+        b"let hybrid main() = h where rec h = g +. 1.0 and g = h -. 1.0",
+        Status::RefusedFile,
+        b"refused causality 1:33\n",
+    );
+    assert_check(
+        &rt,
+        rt.alloc(),
+        b"let hybrid main() = y where rec der x = 1.0 init 0.0 and der y = x init 0.0",
+        Status::RefusedFile,
+        b"refused grade 1:66\n",
+    );
 }
 
 #[test]
@@ -264,13 +281,7 @@ fn automaton(rt: &impl Abort, alloc: Global, states: u64) -> Vec<u8> {
 #[test]
 fn states_fill_the_blocks_up_to_their_limit(rt: HostRuntime) {
     let most = automaton(&rt, rt.alloc(), 32767);
-    assert_check(
-        &rt,
-        rt.alloc(),
-        most.as_slice(),
-        Status::RefusedFile,
-        b"refused unbuilt 1:1\n",
-    );
+    assert_check(&rt, rt.alloc(), most.as_slice(), Status::Done, b"ok\n");
     let more = automaton(&rt, rt.alloc(), 32768);
     assert_check(
         &rt,

@@ -4,7 +4,7 @@ ghost use Rattle.zl_cli.specs.Steps.{TellsOrRunsOut, TellsStop, TellsRun};
 ghost use Rattle.zl_cli.specs.Texts.{refusal_line as line_of_refusal};
 
 use crate::command::{Command, command_of};
-use crate::load::{Stop, load_horizon, load_program};
+use crate::load::{Stop, load_checked, load_horizon, load_program};
 use crate::status::Status;
 use crate::tell::tell;
 use crate::texts::{
@@ -50,16 +50,15 @@ fn stop<K: Sink>(alloc: Global, why: Stop, sink: &mut K) -> Status
     }
 }
 
-/// Checks a file.
+/// Checks a file: tries every rule.
 fn check<S: Shelf, K: Sink>(alloc: Global, file: &str, shelf: &mut S, sink: &mut K) -> Status
     ensures told { S.told shelf.new ≡ S.told shelf.old }
     ensures report { IsReport (check_call (S.told shelf.old) (S.failed shelf.old) (S.failed shelf.new) file.now) (K.stands_for sink.old) (K.stands_for sink.new) (K.faults sink.old) (K.faults sink.new) result }
 {
-    let _thin = match load_program(alloc, file, shelf) {
-        Ok(thin) => thin,
-        Err(why) => return stop(alloc, why, sink),
-    };
-    tell(Status::Done, OK_LINE, sink)
+    match load_checked(alloc, file, shelf) {
+        Ok(()) => tell(Status::Done, OK_LINE, sink),
+        Err(why) => stop(alloc, why, sink),
+    }
 }
 
 /// Runs the program of a file with a script.
@@ -91,8 +90,8 @@ fn run<S: Shelf, K: Sink>(
 }
 
 /// The program: answers the words behind its name, reads the files that they name from `shelf`, and writes the report
-/// to `sink`. `check FILE` says whether the file breaks a rule, and `run FILE SCRIPT` runs its program with the script; all
-/// other words get the usage line. The report and the statuses are this project's own.
+/// to `sink`. `check FILE` says whether the file breaks a rule, and `run FILE SCRIPT` runs its program with the script, if it
+/// breaks none and is of the form that is built; all other words get the usage line. The report and the statuses are this project's own.
 pub fn zpc<S: Shelf, K: Sink>(
     alloc: Global,
     words: &[String],

@@ -1,14 +1,20 @@
 //! The rules by which a tree is tried, stage by stage.
-ghost use Rattle.std.specs.Prelude.{◌≡◌, IfErr, OnOk};
+ghost use Rattle.std.specs.Prelude.{◌≡◌, IfOk, IfErr};
 ghost use Rattle.zl_ast.specs.Assignments.{IsTyping};
+ghost use Rattle.zl_ast.specs.Parsed.{IsParsed};
 ghost use Rattle.zl_ast.specs.Scopes as scope_spec;
 ghost use Rattle.zl_ast.specs.TypeEqualities.{equalities};
-ghost use Rattle.zl_ast.specs.Parsed.{IsParsed};
-ghost use Rattle.zl_cli.specs.TreeRules.{KeepsNames, KeepsTypes, KeepsInitialisation, KeepsRules, IsBrokenBy, GivesTypes, GivesLevels, GivesFlat};
+ghost use Rattle.zl_meaning.specs.GradesLaw.{IsGradable};
+ghost use Rattle.zl_compile.specs.FirstBroken.{IsBrokenBy};
+ghost use Rattle.zl_compile.specs.Rules.{KeepsNames, KeepsTypes, KeepsInitialisation, KeepsRules};
+ghost use Rattle.zl_compile.specs.Steps.{GivesTypes, GivesLevels, GivesFlat};
 
+use crate::file::Accepted;
 use std::alloc::Global;
 use zl_ast::{Program, Scopes, Typing};
+use zl_causal::ranks;
 use zl_expand::expand;
+use zl_grade::grades;
 use zl_init::check_init;
 use zl_meaning::Flat;
 use zl_names::check_names;
@@ -37,7 +43,7 @@ fn try_initialisation(alloc: Global, program: &Program, scopes: &Scopes) -> Resu
 }
 
 /// The flat form of a tree that keeps the rules before, unless it passes the limits of expansion.
-#[tactic(auto, using(crate::proofs::LaterRefusals::limits_kept, crate::proofs::LaterRefusals::limits_broken, crate::proofs::LaterRefusals::tree_checked))]
+#[tactic(auto, using(crate::proofs::LaterRefusals::flat_by, crate::proofs::LaterRefusals::limits_broken, crate::proofs::LaterRefusals::tree_checked))]
 fn flat_of(
     alloc: Global,
     program: &Program,
@@ -50,22 +56,31 @@ fn flat_of(
     requires names { KeepsNames program.now }
     requires types { KeepsTypes program.now }
     requires initialisation { KeepsInitialisation program.now }
-    ensures { GivesFlat program.now result }
+    ensures { GivesFlat program.now typing.now.decls result }
 {
     expand(alloc, program, scopes, typing)
 }
 
-/// Tries the rules of a tree, stage by stage: names, types and contexts, initialisation, the limits of expansion. The refusal
-/// is by the first rule that the tree breaks. The stages and their order are this project's own.
-#[tactic(auto, using(crate::proofs::NamesRefusals::names_broken))]
-pub(crate) fn keep_rules(alloc: Global, program: &Program) -> Result<(), Refusal>
-    requires { IsParsed program.now }
-    ensures kept { OnOk result (KeepsRules program.now) }
-    ensures refused { IfErr result (IsBrokenBy program.now) }
+/// Tries the rules of a tree, stage by stage: names, types and contexts, initialisation, the limits of expansion, causality,
+/// grades. The refusal is by the first rule that the tree breaks. The stages and their order are this project's own.
+#[tactic(auto, using(crate::proofs::NamesRefusals::names_broken, crate::proofs::LaterRefusals::rules_kept, crate::proofs::LaterRefusals::gradable_by, crate::proofs::LaterRefusals::circle_broken, crate::proofs::LaterRefusals::grade_broken))]
+pub(crate) fn accept_tree(alloc: Global, program: Program) -> Result<Accepted, Refusal>
+    requires { IsParsed program }
+    ensures program { IfOk result (λ a. a.program ≡ program) }
+    ensures kept { IfOk result KeepsRules }
+    ensures gradable { IfOk result (λ a. IsGradable a.flat) }
+    ensures refused { IfErr result (IsBrokenBy program) }
 {
-    let scopes = check_names(alloc, program)?;
-    let typing = types_of(alloc, program, &scopes)?;
-    try_initialisation(alloc, program, &scopes)?;
-    let _flat = flat_of(alloc, program, &scopes, &typing)?;
-    Ok(())
+    let scopes = check_names(alloc, &program)?;
+    let typing = types_of(alloc, &program, &scopes)?;
+    try_initialisation(alloc, &program, &scopes)?;
+    let flat = flat_of(alloc, &program, &scopes, &typing)?;
+    let ranks = ranks(alloc, &flat)?;
+    let grades = grades(alloc, &flat, &ranks)?;
+    Ok(Accepted {
+        program,
+        flat,
+        ranks,
+        grades,
+    })
 }

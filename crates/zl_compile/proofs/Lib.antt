@@ -1,0 +1,7 @@
+mod LaterRefusals
+mod MainBlock
+mod NamesRefusals
+mod NeverBoth
+mod OneTyping
+mod RuledUses
+mod TreeRefusals
