@@ -2,7 +2,8 @@ use crate::front::flat;
 use std::test::Fail;
 
 /// A program with each construct of the grammar. The case of the same name holds it too.
-const EVERY_CONSTRUCT: &str = "(* Each construct of the grammar (* and a comment in a comment *). *)
+pub(crate) const EVERY_CONSTRUCT: &str =
+    "(* Each construct of the grammar (* and a comment in a comment *). *)
 let half = 0.5
 let low = -2.5e-1
 let five = 1 + 4

@@ -6,6 +6,8 @@ mod causality;
 #[cfg(test)]
 mod constructs;
 #[cfg(test)]
+mod files;
+#[cfg(test)]
 mod front;
 #[cfg(test)]
 mod lexing;

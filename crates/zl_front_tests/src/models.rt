@@ -56,7 +56,7 @@ const TWO_VARIABLES_THAT_NEED_EACH_OTHER: &str =
     "let hybrid main() = h where rec h = g +. 1.0 and g = h -. 1.0";
 
 /// A derivative that moves.
-const A_DERIVATIVE_THAT_MOVES: &str =
+pub(crate) const A_DERIVATIVE_THAT_MOVES: &str =
     "let hybrid main() = y where rec der x = 1.0 init 0.0 and der y = x init 0.0";
 
 /// The greatest number.

@@ -3,7 +3,11 @@
 #![tactic(auto)]
 
 #[cfg(test)]
+mod machines;
+#[cfg(test)]
 mod numbers;
+#[cfg(test)]
+mod scripts;
 #[cfg(test)]
 mod shelves;
 #[cfg(test)]

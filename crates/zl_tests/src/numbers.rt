@@ -1,7 +1,8 @@
 use std::test::Fail;
 use zl_value::laws::{determined_has_one_run, ranked_has_one_solution, runs_correspond};
 use zl_value::{
-    Frac, Pos, Text, Value, print_number, print_position, print_value, read_decimal, write_value,
+    Arith, Frac, IntOp, Pos, Text, Value, int_neg, int_op, print_number, print_position,
+    print_value, read_decimal, write_value,
 };
 
 #[test]
@@ -75,4 +76,25 @@ fn prints_values(rt: HostRuntime) -> Result<(), Fail> {
         b"truefalse-92233720368547758081844674407370955161512:3".as_slice()
     );
     Ok(())
+}
+
+#[test]
+fn operators_on_ints(rt: HostRuntime) {
+    let cases = [
+        (IntOp::Add, i64::MAX, 1, Err(Arith::Range)),
+        (IntOp::Sub, -1, i64::MAX, Ok(i64::MIN)),
+        (IntOp::Mul, 3037000500, 3037000500, Err(Arith::Range)),
+        (IntOp::Div, -7, 2, Ok(-3)),
+        (IntOp::Div, 7, 0, Err(Arith::Division)),
+        (IntOp::Div, i64::MIN, -1, Err(Arith::Range)),
+        (IntOp::Mod, -7, 2, Ok(-1)),
+        (IntOp::Mod, 7, -2, Ok(1)),
+        (IntOp::Mod, 7, 0, Err(Arith::Division)),
+        (IntOp::Mod, i64::MIN, -1, Ok(0)),
+    ];
+    for (op, a, b, want) in cases {
+        assert_eq!(rt; int_op(op, a, b), want);
+    }
+    assert_eq!(rt; int_neg(i64::MIN), Err(Arith::Range));
+    assert_eq!(rt; int_neg(5), Ok(-5));
 }

@@ -1,0 +1,2 @@
+-- The list of the lemma files.
+pub mod SawTooth
