@@ -23,7 +23,7 @@ fn key(rank: u32, guard: Option<u32>) -> u64
     }
 }
 
-/// A count as a number. One that is too great is want of memory.
+/// The same count, in 32 bits. `Err` exactly where it doesn't fit: a refusal tells no such number from want of memory.
 pub(crate) fn number(count: usize) -> Result<u32, AllocError>
     ensures { IfOk result (λ n. n ≡ count) }
 {

@@ -1,5 +1,5 @@
 // The code of a kernel, by an order of its wires.
-ghost use Rattle.std.specs.Prelude.{◌≡◌, ◌++◌, true, List, [], map, IfOk};
+ghost use Rattle.std.specs.Prelude.{◌≡◌, ◌++◌, List, [], map, IfOk, OnOk};
 ghost use Rattle.zl_kernel.specs.Wires.{AtStep, AtLeft, InFlow};
 ghost use Rattle.zl_kernel.specs.declared.wire.Wire.{Wire as WireOf};
 ghost use Rattle.zl_codegen.specs.Orders.{IsOrder};
@@ -10,6 +10,7 @@ ghost use Rattle.zl_codegen.specs.Statements.{body as statements_of};
 ghost use Rattle.zl_codegen.specs.CodeOf.{memory_of, position_of, site_of, method_of, sets_of, code_of};
 
 use crate::Order;
+use crate::entry::number;
 use crate::flow_wires::flow_wires;
 use crate::marks::mark;
 use crate::needs::{flow_marked, held_memories, instant_marked, mark_needed};
@@ -114,9 +115,6 @@ fn outputs(alloc: Global, outs: &[Output]) -> Result<Vec<Output>, AllocError>
     Ok(made)
 }
 
-/// As many as have numbers.
-const MOST: usize = 4294967296;
-
 /// The statements of a method without its sets, from what it needs for itself.
 fn solved(
     alloc: Global,
@@ -180,14 +178,15 @@ fn flow(alloc: Global, kernel: &Kernel, list: &[u32]) -> Result<Vec<Stmt>, Alloc
     Ok(out)
 }
 
-/// All of the kernel has numbers.
-fn is_numbered(kernel: &Kernel) -> bool
-    ensures { result ≡ true → AreCounted kernel.now }
+/// All that the kernel lists has numbers.
+fn count(kernel: &Kernel) -> Result<(), AllocError>
+    ensures { OnOk result (AreCounted kernel.now) }
 {
-    kernel.wires.len() <= MOST
-        && kernel.mems.len() <= MOST
-        && kernel.ins.len() <= MOST
-        && kernel.sites.len() <= MOST
+    number(kernel.wires.len())?;
+    number(kernel.mems.len())?;
+    number(kernel.ins.len())?;
+    number(kernel.sites.len())?;
+    Ok(())
 }
 
 fn code(alloc: Global, kernel: &Kernel, order: &Order) -> Result<Code, AllocError>
@@ -195,9 +194,7 @@ fn code(alloc: Global, kernel: &Kernel, order: &Order) -> Result<Code, AllocErro
     ensures { IfOk result (λ code. code ≡ code_of kernel.now order.now) }
 {
     is_well_formed(kernel);
-    if !is_numbered(kernel) {
-        return Err(AllocError);
-    }
+    count(kernel)?;
     let held = held_memories(alloc, kernel)?;
     let flows = flow_wires(alloc, kernel)?;
     let list = order.list();

@@ -24,7 +24,7 @@ invariant_of-result c =
     let step = c.from_vec-6.ensures ∙ c.in_ok-step.ensures ∙ ap (λ l. method_of c.args.kernel.now AtStep l (sets_of c.args.kernel.now)) c.list-list.ensures in
     let left = c.from_vec-7.ensures ∙ c.in_ok-left.ensures ∙ ap (λ l. method_of c.args.kernel.now AtLeft l (sets_of c.args.kernel.now)) c.list-list.ensures in
     let flow = c.from_vec-8.ensures ∙ c.in_ok-flow.ensures ∙ ap (λ l. method_of c.args.kernel.now InFlow l []) c.list-list.ensures in
-    let counted : AreCounted c.args.kernel.now = c.if-not-is_numbered.ensures (search rules) in
+    let counted : AreCounted c.args.kernel.now = search rules in
     subst IsCode (sym (same_code k list _ _ _ _ _ _ _ _ _ regs mems ins outs sites again step left flow)) (code_is k list c.is_well_formed.ensures counted)
 
 pub returns : goal.returns
