@@ -1,0 +1,2 @@
+-- The list of the definitions.
+pub mod RoomForm
