@@ -1,0 +1,6 @@
+use Rattle.zl_run.proofs.FiringLemmas.{noted}
+use Rattle.zl_run.proofs.firing.note_below.Goals as goal
+
+pub loop-k-preserved : goal.loop-k-preserved
+loop-k-preserved c =
+    noted c.loop-k.below _ _ c.loop-k.k c.site_below.result _ c.loop-k.invariant.0 c.loop-k.invariant.1 c.requires.below c.loop-k-test.true c.site_below.ensures
