@@ -1,8 +1,8 @@
 -- An instant of a normal form has the fault of the form's instant.
-use Rattle.std.specs.Prelude.{◌≡◌, ℕ, zero, suc, ◌<◌, Bool, true, false, not, ◌&&◌, ◌||◌, if◌then◌else◌, List, [], ◌∷◌, map, slice_get, Option, Some, None}
+use Rattle.std.specs.Prelude.{◌≡◌, ℕ, suc, Bool, true, false, not, ◌&&◌, ◌||◌, if◌then◌else◌, List, [], ◌∷◌, map, slice_get, Option, Some, None}
 use Rattle.std.specs.Option.{option_map}
-use Rattle.std.proofs.Common.{refl, sym, ap, ap₂, ◌∙◌, arith, subst}
-use Rattle.zl_value.specs.Operators.{Answer, Gives, Faults, Nothing}
+use Rattle.std.proofs.Common.{refl, sym, ap, ap₂, ◌∙◌, subst}
+use Rattle.zl_value.specs.Operators.{Answer, Nothing}
 use Rattle.zl_value.specs.declared.value.Value.{Value}
 use Rattle.zl_value.specs.declared.value.Value.TheVariants.{B, I, F}
 use Rattle.zl_value.specs.declared.op.Op.{Op}
@@ -23,146 +23,28 @@ use Rattle.zl_normal.specs.Normal.{IsNormalAtInstants}
 use Rattle.zl_kernel.specs.declared.wire.Def.TheVariants.{Lit as LitWire, Copy, Mem, In, Event, Step, Op as OpWire, If as IfWire}
 use Rattle.zl_normal.proofs.Wires.{lit_is}
 use Rattle.zl_normal.proofs.Follows.{some_is}
+use Rattle.zl_normal.proofs.FirstFaults.{clash, at_ord, zero_more, ranked_is, first_from, same_first}
 use Rattle.zl_normal.specs.MainBlock.{IsMain}
 use Rattle.zl_normal.proofs.Values.{Agrees, mode_as, applied_same, mode_flow}
-use Rattle.std.specs.Prelude.{◌≤◌, nat_le, ◌⊎◌, ◌+◌}
+use Rattle.std.specs.Prelude.{◌⊎◌}
 use Rattle.std.proofs.Common.{⊎_elim, inl, inr}
-use Rattle.std.proofs.lemmas.Bool.Decides.{leb_tells}
 use Rattle.zl_value.specs.declared.position.Pos.{Pos}
 use Rattle.zl_value.specs.declared.value.Fault.{Fault}
 use Rattle.zl_value.specs.declared.op.Op.TheVariants.{Or, Not}
 use Rattle.zl_meaning.specs.Solves.{fault_of, if_evaluated, or_later, own_fault, fault_from}
-use Rattle.zl_kernel.specs.Faults.{Ranked, ranked, lower, least_from}
+use Rattle.zl_kernel.specs.Faults.{Ranked, ranked, least_from}
 use Rattle.zl_kernel.specs.FlowWires.{is_of_flows}
 use Rattle.zl_kernel.specs.Wires.{wire_answer, answer as wire_says}
 use Rattle.zl_normal.specs.Normal.{IsOwn}
 use Rattle.zl_kernel.specs.declared.wire.Wire.{Wire}
 use Rattle.zl_kernel.specs.declared.wire.Def.{Def}
 
-abbrev at_ord : ℕ → Option Fault → Option Ranked
-at_ord j o = option_map (λ (x : Fault). record { ord = j; fault = x }) o
-
-clash : {X : Type 0} (x : X) → None ≡ Some x → ⊥
-clash x e = absurd cc
-
-shift : (j i : ℕ) → suc j + i ≡ j + suc i
-shift j i = omega arith
-
-zero_more : (j : ℕ) → 0 + j ≡ j
-zero_more j = omega arith
-
-start : (j : ℕ) → j + 0 ≡ j
-start j = omega arith
-
--- the first fault of a list of occurrences
-record FirstAt (F : ℕ → Occ → Option Fault) (base : ℕ) (occs : List Occ) (fault : Fault) : Type 0 where
-  at : ℕ
-  occ : Occ
-  is : slice_get occs at ≡ Some occ
-  has : F (base + at) occ ≡ Some fault
-  before : (i : ℕ) (o : Occ) → slice_get occs i ≡ Some o → i < at → F (base + i) o ≡ None
-
-module _ (f : FlatForm) (m : Moment) (s : State) where
-  own : ℕ → Occ → Option Fault
-  own j occ = own_fault f m s j occ
-
-  first_none : (base : ℕ) (occs : List Occ) → fault_from f m s base occs ≡ None → (i : ℕ) (o : Occ) → slice_get occs i ≡ Some o → own_fault f m s (base + i) o ≡ None
-  first_none base [] e i o is = absurd cc
-  first_none base (occ ∷ occs) e zero o is =
-      ap₂ (λ n x. own_fault f m s n x) (start base) (sym (some_is occ o is)) ∙ (by (own_fault f m s base occ) (fault_from f m s (suc base) occs) e).0
-    where
-      by : (a b : Option Fault) → or_later a b ≡ None → (a ≡ None) × (b ≡ None)
-      by None b e = (refl, e)
-      by (Some x) b e = absurd cc
-  first_none base (occ ∷ occs) e (suc i) o is =
-      ap (λ n. own_fault f m s n o) (sym (shift base i)) ∙ first_none (suc base) occs (by (own_fault f m s base occ) (fault_from f m s (suc base) occs) e) i o is
-    where
-      by : (a b : Option Fault) → or_later a b ≡ None → b ≡ None
-      by None b e = e
-      by (Some x) b e = absurd cc
-
-  first_some : (base : ℕ) (occs : List Occ) (fault : Fault) → fault_from f m s base occs ≡ Some fault → FirstAt (λ j occ. own_fault f m s j occ) base occs fault
-  first_some base [] fault e = absurd cc
-  first_some base (occ ∷ occs) fault e = by (own_fault f m s base occ) refl e (λ q. first_some (suc base) occs fault q)
-    where
-      by : (a : Option Fault) → own_fault f m s base occ ≡ a → or_later a (fault_from f m s (suc base) occs) ≡ Some fault → (fault_from f m s (suc base) occs ≡ Some fault → FirstAt (λ j occ. own_fault f m s j occ) (suc base) occs fault) → FirstAt (λ j occ. own_fault f m s j occ) base (occ ∷ occs) fault
-      by (Some x) q e rest = record { at = 0; occ = occ; is = refl; has = ap (λ n. own_fault f m s n occ) (start base) ∙ q ∙ e; before = λ i o is low. absurd (omega arith) }
-      by None q e rest =
-          let r = rest e in
-          record { at = suc r.at; occ = r.occ; is = r.is; has = ap (λ n. own_fault f m s n r.occ) (sym (shift base r.at)) ∙ r.has; before = λ i o is low. earlier r i o is low }
-        where
-          earlier : (r : FirstAt (λ j occ. own_fault f m s j occ) (suc base) occs fault) (i : ℕ) (o : Occ) → slice_get (occ ∷ occs) i ≡ Some o → i < suc r.at → own_fault f m s (base + i) o ≡ None
-          earlier r zero o is low = ap₂ (λ n x. own_fault f m s n x) (start base) (sym (some_is occ o is)) ∙ q
-          earlier r (suc i) o is low = ap (λ n. own_fault f m s n o) (sym (shift base i)) ∙ r.before i o is (omega (arith, low))
-
-module _ (k : KernelForm) (km : KernelMoment) (s : ℕ → Option Value) where
-  abbrev at_wire : ℕ → Wire → Option Ranked
-  at_wire n wire = ranked wire (wire_answer k km s n wire)
-
-  lower_none : (a b : Option Ranked) → lower a b ≡ None → (a ≡ None) × (b ≡ None)
-  lower_none None b e = (refl, e)
-  lower_none (Some a) None e = absurd cc
-  lower_none (Some a) (Some b) e = absurd (by (nat_le a.ord b.ord) e)
-    where
-      by : (t : Bool) → (if t then Some a else Some b) ≡ None → ⊥
-      by true e = absurd cc
-      by false e = absurd cc
-
-  least_none : (base : ℕ) (wires : List Wire) → least_from k km s base wires ≡ None → (i : ℕ) (wire : Wire) → slice_get wires i ≡ Some wire → at_wire (base + i) wire ≡ None
-  least_none base [] e i wire is = absurd cc
-  least_none base (w ∷ wires) e zero wire is = ap₂ (λ n x. at_wire n x) (start base) (sym (some_is w wire is)) ∙ (lower_none (at_wire base w) (least_from k km s (suc base) wires) e).0
-  least_none base (w ∷ wires) e (suc i) wire is =
-      ap (λ n. at_wire n wire) (sym (shift base i)) ∙ least_none (suc base) wires (lower_none (at_wire base w) (least_from k km s (suc base) wires) e).1 i wire is
-
-  -- the one of least order is one of them, and no other is of a lower order
-  record LeastAt (base : ℕ) (wires : List Wire) (a : Ranked) : Type 0 where
-    at : ℕ
-    wire : Wire
-    is : slice_get wires at ≡ Some wire
-    has : at_wire (base + at) wire ≡ Some a
-    least : (i : ℕ) (o : Wire) (b : Ranked) → slice_get wires i ≡ Some o → at_wire (base + i) o ≡ Some b → a.ord ≤ b.ord
-
-  least_some : (base : ℕ) (wires : List Wire) (a : Ranked) → least_from k km s base wires ≡ Some a → LeastAt base wires a
-  least_some base [] a e = absurd cc
-  least_some base (w ∷ wires) a e = by (at_wire base w) (least_from k km s (suc base) wires) refl refl e (λ b q. least_some (suc base) wires b q)
-    where
-      here : (x : Ranked) → at_wire base w ≡ Some x → (c : Option Ranked) → least_from k km s (suc base) wires ≡ c → ((b : Ranked) → c ≡ Some b → (x.ord ≤ b.ord)) → ((b : Ranked) → least_from k km s (suc base) wires ≡ Some b → LeastAt (suc base) wires b) → LeastAt base (w ∷ wires) x
-      here x q c p low rest = record { at = 0; wire = w; is = refl; has = ap (λ n. at_wire n w) (start base) ∙ q; least = λ i o b is has. all i o b is has c p low }
-        where
-          all : (i : ℕ) (o : Wire) (b : Ranked) → slice_get (w ∷ wires) i ≡ Some o → at_wire (base + i) o ≡ Some b → (c : Option Ranked) → least_from k km s (suc base) wires ≡ c → ((b : Ranked) → c ≡ Some b → x.ord ≤ b.ord) → x.ord ≤ b.ord
-          all zero o b is has c p low =
-              let e : x ≡ b = some_is x b (sym q ∙ sym (ap₂ (λ n y. at_wire n y) (start base) (sym (some_is w o is))) ∙ has) in
-              let d : x.ord ≡ b.ord = ap (λ (y : Ranked). y.ord) e in omega (arith, d)
-          all (suc i) o b is has None p low =
-              let z : None ≡ Some b = sym (least_none (suc base) wires p i o is) ∙ ap (λ n. at_wire n o) (shift base i) ∙ has in absurd cc
-          all (suc i) o b is has (Some y) p low =
-              let first = low y refl in
-              let others = (rest y p).least i o b is (ap (λ n. at_wire n o) (shift base i) ∙ has) in omega (arith, first, others)
-
-      there : (y : Ranked) → least_from k km s (suc base) wires ≡ Some y → ((x : Ranked) → at_wire base w ≡ Some x → y.ord ≤ x.ord) → ((b : Ranked) → least_from k km s (suc base) wires ≡ Some b → LeastAt (suc base) wires b) → LeastAt base (w ∷ wires) y
-      there y p low rest =
-          let r = rest y p in
-          record { at = suc r.at; wire = r.wire; is = r.is; has = ap (λ n. at_wire n r.wire) (sym (shift base r.at)) ∙ r.has; least = λ i o b is has. all r i o b is has }
-        where
-          all : (r : LeastAt (suc base) wires y) (i : ℕ) (o : Wire) (b : Ranked) → slice_get (w ∷ wires) i ≡ Some o → at_wire (base + i) o ≡ Some b → y.ord ≤ b.ord
-          all r zero o b is has = low b (sym (ap₂ (λ n z. at_wire n z) (start base) (sym (some_is w o is))) ∙ has)
-          all r (suc i) o b is has = r.least i o b is (ap (λ n. at_wire n o) (shift base i) ∙ has)
-
-      by : (x y : Option Ranked) → at_wire base w ≡ x → least_from k km s (suc base) wires ≡ y → lower x y ≡ Some a → ((b : Ranked) → least_from k km s (suc base) wires ≡ Some b → LeastAt (suc base) wires b) → LeastAt base (w ∷ wires) a
-      by None y q p e rest = there a (p ∙ e) (λ x z. let w : None ≡ Some x = sym q ∙ z in absurd cc) rest
-      by (Some x) None q p e rest = subst (λ z. LeastAt base (w ∷ wires) z) (some_is x a e) (here x q None p (λ b z. absurd cc) rest)
-      by (Some x) (Some y) q p e rest =
-          ⊎_elim
-          (λ yes. subst (λ z. LeastAt base (w ∷ wires) z) (some_is x a (sym (ap (λ t. if t then Some x else Some y) yes.0) ∙ e)) (here x q (Some y) p (λ b z. let d : y.ord ≡ b.ord = ap (λ (v : Ranked). v.ord) (some_is y b z) in let l = yes.1 in omega (arith, d, l)) rest))
-          (λ other. subst (λ z. LeastAt base (w ∷ wires) z) (some_is y a (sym (ap (λ t. if t then Some x else Some y) other.0) ∙ e)) (there y p (λ b z. let d : x.ord ≡ b.ord = ap (λ (v : Ranked). v.ord) (some_is x b (sym q ∙ z)) in let l = other.1 in omega (arith, d, l)) rest))
-          (leb_tells x.ord y.ord)
-
 -- answers that have no fault
-given_right : (at : Pos) (x : Option Value) → fault_of at (given x) ≡ None
+pub given_right : (at : Pos) (x : Option Value) → fault_of at (given x) ≡ None
 given_right at None = refl
 given_right at (Some v) = refl
 
-not_right : (at : Pos) (vs : Option (List Value)) → fault_of at (worked Not vs) ≡ None
+pub not_right : (at : Pos) (vs : Option (List Value)) → fault_of at (worked Not vs) ≡ None
 not_right at None = refl
 not_right at (Some []) = refl
 not_right at (Some (B b ∷ [])) = refl
@@ -172,18 +54,24 @@ not_right at (Some (B b ∷ v ∷ vs)) = refl
 not_right at (Some (I b ∷ v ∷ vs)) = refl
 not_right at (Some (F b ∷ v ∷ vs)) = refl
 
-or_right : (at : Pos) (vs : Option (List Value)) → fault_of at (worked Or vs) ≡ None
+pub or_right : (at : Pos) (vs : Option (List Value)) → fault_of at (worked Or vs) ≡ None
 or_right at None = refl
 or_right at (Some []) = refl
 or_right at (Some (B a ∷ B b ∷ [])) = refl
 or_right at (Some _) = refl
 
-ranked_is : (wire : Wire) (a : Answer) → ranked wire a ≡ option_map (λ (x : Fault). record { ord = wire.ord; fault = x }) (fault_of wire.at a)
-ranked_is wire (Gives v) = refl
-ranked_is wire (Faults kind) = refl
-ranked_is wire Nothing = refl
+-- a wire that has no operator has no fault
+pub operators : (km : KernelMoment) (r : Registers) (def : Def) → ((op : Op) × (ns : List ℕ) × (def ≡ OpWire op ns)) ⊎ ((p : Pos) → fault_of p (wire_says km (held r) def) ≡ None)
+operators km r (OpWire op ns) = inl (op, ns, refl)
+operators km r (LitWire v) = inr (λ p. refl)
+operators km r (Copy n) = inr (λ p. given_right p (held r n))
+operators km r (Mem n) = inr (λ p. given_right p (held km.memories n))
+operators km r (In n) = inr (λ p. given_right p (held km.inputs n))
+operators km r (Event n) = inr (λ p. refl)
+operators km r Step = inr (λ p. refl)
+operators km r (IfWire c x y) = inr (λ p. given_right p (branch (held r c) (held r x) (held r y)))
 
-gate_fault : (at : Pos) (b : Bool) (a : Answer) → fault_of at (if b then a else Nothing) ≡ if_evaluated b (fault_of at a)
+pub gate_fault : (at : Pos) (b : Bool) (a : Answer) → fault_of at (if b then a else Nothing) ≡ if_evaluated b (fault_of at a)
 gate_fault at true a = refl
 gate_fault at false a = refl
 
@@ -304,17 +192,6 @@ module _ (f : FlatForm) (k : KernelForm) (N : Wiring) (main : IsMain f) (normal 
   inverted None j a e = absurd (clash a e)
   inverted (Some x) j a e = let same = some_is (record { ord = j; fault = x }) a e in (ap (λ (y : Ranked). Some y.fault) same, ap (λ (y : Ranked). y.ord) same)
 
-  -- a wire that has no operator has no fault
-  operators : (def : Def) → ((op : Op) × (ns : List ℕ) × (def ≡ OpWire op ns)) ⊎ ((p : Pos) → fault_of p (wire_says km (held r) def) ≡ None)
-  operators (OpWire op ns) = inl (op, ns, refl)
-  operators (LitWire v) = inr (λ p. refl)
-  operators (Copy n) = inr (λ p. given_right p (held r n))
-  operators (Mem n) = inr (λ p. given_right p (held km.memories n))
-  operators (In n) = inr (λ p. given_right p (held km.inputs n))
-  operators (Event n) = inr (λ p. refl)
-  operators Step = inr (λ p. refl)
-  operators (IfWire c x y) = inr (λ p. given_right p (branch (held r c) (held r x) (held r y)))
-
   record AtItsTurn (a : Ranked) : Type 0 where
     occ : Occ
     is : slice_get f.occs a.ord ≡ Some occ
@@ -336,7 +213,7 @@ module _ (f : FlatForm) (k : KernelForm) (N : Wiring) (main : IsMain f) (normal 
       (λ own. by o.0 o.1 o.2 own (subst (λ x. IsFormWire f k N wire.ord own.occ x) own.form (normal.forms wire.ord own.occ own.is)))
       (normal.faults n wire o.0 o.1 is kept o.2))
       (λ none. absurd (clash a (sym (silent none) ∙ has)))
-      (operators wire.def)
+      (operators km r wire.def)
     where
       kept : is_of_flows k n ≡ false
       kept = ask_solved (in_flow km.mode) (is_of_flows k n) (is_open (held r) wire.guard) (wire_says km (held r) wire.def) wire a instant_km has
@@ -366,31 +243,16 @@ module _ (f : FlatForm) (k : KernelForm) (N : Wiring) (main : IsMain f) (normal 
               let z : LitWire v ≡ OpWire op ns = sym lit.def_is ∙ ap (λ (w : Wire). w.def) twin ∙ e in
               absurd (apart v op ns z)
 
+  own_first : (base : ℕ) (occs : List Occ) → first_from (λ j occ. own_fault f m s j occ) base occs ≡ fault_from f m s base occs
+  own_first base [] = refl
+  own_first base (occ ∷ occs) = ap (λ x. or_later (own_fault f m s base occ) x) (own_first (suc base) occs)
+
   -- the fault of the wires is that of the occurrences
   pub same_fault : option_map (λ (a : Ranked). a.fault) (least_from k km (held r) 0 k.wires) ≡ fault_from f m s 0 f.occs
-  same_fault = by (least_from k km (held r) 0 k.wires) (fault_from f m s 0 f.occs) refl refl
-    where
-      by : (a : Option Ranked) (b : Option Fault) → least_from k km (held r) 0 k.wires ≡ a → fault_from f m s 0 f.occs ≡ b → option_map (λ (a : Ranked). a.fault) a ≡ b
-      by None None p q = refl
-      by None (Some x) p q =
-          let first = first_some f m s 0 f.occs x q in
-          let wire = to_wire (0 + first.at) first.occ x (ap (λ n. slice_get f.occs n) (zero_more first.at) ∙ first.is) first.has in
-          absurd (clash _ (sym (least_none k km (held r) 0 k.wires p wire.n wire.wire wire.is) ∙ ap (λ n. at_wire k km (held r) n wire.wire) (zero_more wire.n) ∙ wire.has))
-      by (Some a) None p q =
-          let least = least_some k km (held r) 0 k.wires a p in
-          let turn = from_wire (0 + least.at) least.wire a (ap (λ n. slice_get k.wires n) (zero_more least.at) ∙ least.is) least.has in
-          absurd (clash _ (sym (first_none f m s 0 f.occs q a.ord turn.occ turn.is) ∙ ap (λ n. own_fault f m s n turn.occ) (zero_more a.ord) ∙ turn.has))
-      by (Some a) (Some x) p q =
-          let first = first_some f m s 0 f.occs x q in
-          let wire = to_wire (0 + first.at) first.occ x (ap (λ n. slice_get f.occs n) (zero_more first.at) ∙ first.is) first.has in
-          let least = least_some k km (held r) 0 k.wires a p in
-          let turn = from_wire (0 + least.at) least.wire a (ap (λ n. slice_get k.wires n) (zero_more least.at) ∙ least.is) least.has in
-          let low = least.least wire.n wire.wire (record { ord = 0 + first.at; fault = x }) wire.is (ap (λ n. at_wire k km (held r) n wire.wire) (zero_more wire.n) ∙ wire.has) in
-          ⊎_elim
-          (λ up.
-          let l = up.1 in
-          let at : a.ord ≡ first.at = omega (arith, l, low) in
-          let occ : turn.occ ≡ first.occ = some_is turn.occ first.occ (sym turn.is ∙ ap (λ n. slice_get f.occs n) at ∙ first.is) in
-          sym turn.has ∙ ap₂ (λ n o. own_fault f m s n o) (at ∙ sym (zero_more first.at)) occ ∙ first.has)
-          (λ down. absurd (clash _ (sym (first.before a.ord turn.occ turn.is down.1) ∙ ap (λ n. own_fault f m s n turn.occ) (zero_more a.ord) ∙ turn.has)))
-          (leb_tells first.at a.ord)
+  same_fault =
+      same_first k km (held r) (λ j occ. own_fault f m s j occ) f.occs 0
+      (λ j occ fault is has.
+      let w = to_wire j occ fault is has in
+      record { n = w.n; wire = w.wire; is = w.is; has = w.has ∙ ap (λ n. Some (record { ord = n; fault = fault })) (sym (zero_more j)) })
+      (λ n wire a is has. let t = from_wire n wire a is has in record { j = a.ord; occ = t.occ; is = t.is; ord = sym (zero_more a.ord); has = t.has })
+      ∙ own_first 0 f.occs

@@ -1,4 +1,4 @@
--- In a flow of a normal form the sites have the values that they have in the form's flow.
+-- A flow of a normal form has the fault of the form's flow, and its sites have the values that they have there.
 use Rattle.std.specs.Prelude.{◌≡◌, ℕ, zero, suc, ◌<◌, pos, Bool, true, false, ◌&&◌, ◌||◌, if◌then◌else◌, is_some, is_none, nat_eq, List, [], ◌∷◌, slice_get, length, Option, Some, None}
 use Rattle.std.specs.List.{list_any}
 use Rattle.std.proofs.Common.{refl, sym, ap, ap₂, ◌∙◌, subst}
@@ -75,6 +75,7 @@ use Rattle.zl_normal.proofs.StillUsed.{stays}
 use Rattle.zl_normal.proofs.SlopeOperators.{BesideFlow}
 use Rattle.zl_normal.proofs.SlopeWires.{if_fine}
 use Rattle.zl_normal.proofs.AllSlopes.{slopes}
+use Rattle.zl_normal.proofs.SlopeFaults.{same_slope_fault}
 
 -- a flow follows where there is no fault, nothing is missing and no step is demanded
 pub record Flowing (fault : Option Fault) (lacks demanded : Bool) : Type 0 where
@@ -219,6 +220,11 @@ module _ (f : FlatForm) (k : KernelForm) (N : Wiring) (main : IsMain f) (single 
         (ap (λ n. held (y nought) n) (sym m.0) ∙ t.3 ∙ ap (λ z. Some (F z)) equal, ap (λ z. fits z) (sym equal) ∙ t.2);
     blank = λ p place at none. blank_place f main (form_moment f g j nought) (state_in (flow nought).table) (c.solves nought at-start) (λ q. c.live) p place at none (looks_back f k N main h g i j e (AtPlace p) (place_home f k N main p (place, at)) ∙ e.0.blank p place at none);
   }
+
+  -- the fault is that of the form's flow
+  pub slope_fault_same : (system_of f gr.occs).flow_fault g j flow ≡ (system_of_kernel k).flow_fault h i y
+  unfolding c d
+  slope_fault_same = same_slope_fault f gr main formed c single ranks k N moving d normal (starts script g j (tables flow) suits prefix right over (flow_tables f gr.occs g j flow is))
 
   -- the value of a site moves as its slope says, if that is there
   moves_along : (arg : ℕ) → IsUse f arg ArgumentOf → (is_some (value_along (tables flow) arg nought) ≡ true → is_none (held (y nought) (N.S arg)) ≡ false) → (s : Fraction) → (occ : Occ) → slice_get f.occs arg ≡ Some occ → occ.ty ≡ Float → (x : Option Value) → value_along (tables flow) arg nought ≡ x → moved_by x (held (y nought) (N.S arg)) s ≡ on_line x (value_along (tables flow) arg unit) s

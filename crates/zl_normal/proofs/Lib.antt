@@ -1,6 +1,7 @@
 pub mod Wires
 pub mod Values
 pub mod Instants
+pub mod FirstFaults
 pub mod Faults
 pub mod Follows
 pub mod Steps
@@ -19,4 +20,7 @@ pub mod SlopeOperators
 pub mod SlopeForms
 pub mod Runs
 pub mod AllSlopes
+pub mod NarrowSlopes
+pub mod WideSlopes
+pub mod SlopeFaults
 pub mod FlowLaw

@@ -25,9 +25,9 @@ use Rattle.zl_normal.specs.Interface.{AreInputs, AreOutputs}
 use Rattle.zl_normal.specs.MainBlock.{IsMain}
 use Rattle.zl_normal.specs.Evaluated.{HasGuardRanks, KeepsLasts}
 use Rattle.zl_normal.specs.Normal.{IsNormal}
-use Rattle.zl_normal.specs.Laws.{same_sites, SeesPlaces, HaveSameFaults, KeepsRunsOf}
+use Rattle.zl_normal.specs.Laws.{same_sites, SeesPlaces, KeepsRunsOf}
 use Rattle.zl_normal.proofs.Corresponds.{Says, follows, corresponds}
-use Rattle.zl_normal.proofs.FlowLaw.{site_same}
+use Rattle.zl_normal.proofs.FlowLaw.{slope_fault_same, site_same}
 use Rattle.zl_normal.specs.Starts.{KeepsFlows}
 use Rattle.zl_meaning.specs.Grades.{Grading}
 use Rattle.zl_meaning.specs.Inputs.{input_types}
@@ -67,13 +67,15 @@ module _ (f : FlatForm) (gr : Grading) (names : List (List ℕ)) (k : KernelForm
   shows : IsNormal f gr.occs names k N → ShowsSame (system_of_kernel k) (system_of f gr.occs) script same_sites (Says f k N) (outputs k) (form_outputs f names)
   shows normal h g i j at none whole = same_shown f names N j.table i.table (λ p place is. at.corresponds.0.1.says.places p (place, is)) f.outs k.outs normal.outs
 
-  module _ (main : IsMain f) (single : IsSingle f) (ranks : HasGuardRanks f) (lasts : KeepsLasts f) (normal : IsNormal f gr.occs names k N) (formed : IsWellFormed f) (keeps : KeepsFlows f gr) (suits : IsScriptFor (input_types f) script) (faults : HaveSameFaults f gr.occs k N script) where
+  module _ (main : IsMain f) (single : IsSingle f) (ranks : HasGuardRanks f) (lasts : KeepsLasts f) (normal : IsNormal f gr.occs names k N) (formed : IsWellFormed f) (keeps : KeepsFlows f gr) (suits : IsScriptFor (input_types f) script) where
     law : KeepsRuns (system_of_kernel k) (system_of f gr.occs) script same_sites (Says f k N)
     law =
         keeps_runs (system_of_kernel k) (system_of f gr.occs) script same_sites (Says f k N)
         (corresponds f k N gr.occs script main single normal.instants normal.flows ranks (same_count f names N f.ins k.ins normal.ins)
         (λ h g i j y at after whole flow is. record {
-          fault = faults h g i j y (reached (i ∷ h) (j ∷ g) at) after whole flow is;
+          fault =
+              slope_fault_same f k N main single normal.instants gr normal.flows ranks formed keeps.grades keeps.moving keeps.starts keeps.derivatives script suits h g i j
+              (follows f k N gr.occs script (i ∷ h) (j ∷ g) at.corresponds) at.second y after flow is;
           values = λ none s r l n low.
               site_same f k N main single normal.instants gr normal.flows ranks formed keeps.grades keeps.moving keeps.starts keeps.derivatives script suits h g i j
               (follows f k N gr.occs script (i ∷ h) (j ∷ g) at.corresponds) at.second y after flow is (whole none) s (record { reduced = r; after = l }) n low;

@@ -38,7 +38,7 @@ use Rattle.zl_kernel.specs.declared.wire.Def.TheVariants.{Op as OpWire}
 use Rattle.zl_normal.specs.Evaluated.{HasGuardRanks}
 use Rattle.zl_normal.specs.Wiring.{Wiring}
 use Rattle.zl_normal.specs.PlaceWires.{definer_of}
-use Rattle.zl_normal.specs.SlopeWires.{IsTested, IsSlopeMade, Negated, Sum, Difference, RightOfDifference, StillLeft, StillRight, Quotient, IsOperatorSlope, LeftOfSum, RightOfSum, LeftOfDifference, Itself}
+use Rattle.zl_normal.specs.SlopeWires.{IsPresence, IsTested, IsSlopeMade, Negated, Sum, Difference, RightOfDifference, StillLeft, StillRight, Quotient, IsOperatorSlope, LeftOfSum, RightOfSum, LeftOfDifference, Itself}
 use Rattle.zl_normal.specs.Normal.{IsNormalInFlows}
 use Rattle.zl_normal.specs.MainBlock.{IsMain}
 use Rattle.zl_normal.proofs.Values.{Agrees}
@@ -77,17 +77,18 @@ module _ (f : FlatForm) (g : Grading) (main : IsMain f) (formed : IsWellFormed f
   pub zero_is : held d.y N.zero ≡ Some (F nought)
   zero_is = flow_wire_is k d.i d.y d.wired N.zero _ None moving.zero
 
+  -- the presence of an occurrence that has a number is true
+  pub present_is : (j n : ℕ) → IsPresence f g.occs k N j n → (a : Fraction) → held d.y (N.w j) ≡ Some (F a) → held d.y n ≡ Some (B true)
+  present_is j n present a e =
+      flow_wire_is k d.i d.y d.wired n (OpWire EqFloat (N.w j ∷ N.w j ∷ [])) None present.wire
+      ∙ ap₂ (λ x z. answered (worked EqFloat (option_and_then (λ v. option_map (λ vs. v ∷ vs) (option_and_then (λ w. option_map (λ ws. w ∷ ws) (Some [])) z)) x))) e e
+      ∙ ap (λ b. Some (B b)) (same_number a)
+
   -- a slope that is tested
   tested_is : (j : ℕ) (occ : Occ) (op : Op) (ns : List ℕ) → IsTested f g.occs k N j occ op ns → (a : Fraction) → held d.y (N.w j) ≡ Some (F a) → held d.y (N.S j) ≡ answered (worked op (collected (held d.y) ns))
   tested_is j occ op ns t a e =
       flow_wire_is k d.i d.y d.wired (N.S j) (OpWire op ns) (Some t.presence) t.made.wire
-      ∙ ap (λ b. if_used b (answered (worked op (collected (held d.y) ns)))) (ap (λ x. holds x) present)
-    where
-      present : held d.y t.presence ≡ Some (B true)
-      present =
-          flow_wire_is k d.i d.y d.wired t.presence (OpWire EqFloat (N.w j ∷ N.w j ∷ [])) None t.present.wire
-          ∙ ap₂ (λ x z. answered (worked EqFloat (option_and_then (λ v. option_map (λ vs. v ∷ vs) (option_and_then (λ w. option_map (λ ws. w ∷ ws) (Some [])) z)) x))) e e
-          ∙ ap (λ b. Some (B b)) (same_number a)
+      ∙ ap (λ b. if_used b (answered (worked op (collected (held d.y) ns)))) (ap (λ x. holds x) (present_is j t.presence t.present a e))
 
   -- two operands with their slopes
   pub record TwoSlopes (j x y : ℕ) (make : Fraction → Fraction → Fraction) (a b : Fraction) : Type 0 where
@@ -107,7 +108,7 @@ module _ (f : FlatForm) (g : Grading) (main : IsMain f) (formed : IsWellFormed f
     pub fine : fine_of f g main formed c j ≡ (fits (sub b a) && (fine_of f g main formed c x && (fine_of f g main formed c y && true)))
 
   module _ (j : ℕ) (occ : Occ) (is : slice_get f.occs j ≡ Some occ) (ty : occ.ty ≡ Float) (low : grade_of c.whole j ≤ 1) (on : V f g main c nought (AtUsed j) ≡ true) (a b : Fraction) (v : V f g main c nought (AtValue j) ≡ Some (F a)) (w : V f g main c unit (AtValue j) ≡ Some (F b)) where
-    two_slopes : (x y : ℕ) (op : Op) (make : Fraction → Fraction → Fraction) → occ.form ≡ Apply op (x ∷ y ∷ []) → keeps_lines op ≡ true → Stands f occ.block Float x → Stands f occ.block Float y → Low (grade_of c.whole j) (grade_of c.whole x) (grade_of c.whole y) → ((t : Two f g main formed c x y) → answered (exact op (F t.p ∷ F t.q ∷ [])) ≡ Some (F a) → Carries op make a t.p t.q t.moves_left.b t.moves_right.b) → Sloped x → Sloped y → TwoSlopes j x y make a b
+    pub two_slopes : (x y : ℕ) (op : Op) (make : Fraction → Fraction → Fraction) → occ.form ≡ Apply op (x ∷ y ∷ []) → keeps_lines op ≡ true → Stands f occ.block Float x → Stands f occ.block Float y → Low (grade_of c.whole j) (grade_of c.whole x) (grade_of c.whole y) → ((t : Two f g main formed c x y) → answered (exact op (F t.p ∷ F t.q ∷ [])) ≡ Some (F a) → Carries op make a t.p t.q t.moves_left.b t.moves_right.b) → Sloped x → Sloped y → TwoSlopes j x y make a b
     two_slopes x y op make e keeps sx sy l carries hx hy =
         let both = two f g main formed c j x y occ.block occ op is e sx sy l.left l.right on a v (moves f g main formed c single ranks x) (moves f g main formed c single ranks y) in
         let t = both.0 in
@@ -161,7 +162,7 @@ module _ (f : FlatForm) (g : Grading) (main : IsMain f) (formed : IsWellFormed f
     single_one : (op : Op) (m : ℕ) (t : Bool) (x : Value) → held d.y m ≡ (if t then Some x else None) → worked op (collected (held d.y) (m ∷ [])) ≡ (if t && true then operate op (x ∷ []) else Nothing)
     single_one op m t x p = ap (λ s. worked op (option_and_then (λ v. option_map (λ vs. v ∷ vs) (Some [])) s)) p ∙ on_one op t x
 
-    made_says : (op : Op) (ks : List ℕ) → occ.form ≡ Apply op ks → AllStand f occ.block (type_of op).operands ks → op_grade c.whole op ks ≤ grade_of c.whole j → AllByRecursion Sloped ks → IsSlopeMade f g.occs k N j occ op ks → SaysSlope ks
+    pub made_says : (op : Op) (ks : List ℕ) → occ.form ≡ Apply op ks → AllStand f occ.block (type_of op).operands ks → op_grade c.whole op ks ≤ grade_of c.whole j → AllByRecursion Sloped ks → IsSlopeMade f g.occs k N j occ op ks → SaysSlope ks
     made_says _ _ e st gr h (Sum x y t) =
         let l = low_sum (grade_of c.whole j) (grade_of c.whole x) (grade_of c.whole y) low gr in
         let s = two_slopes x y AddFloat add e refl st.0 st.1.0 l (λ t z. carries_sum a t.p t.q t.moves_left.b t.moves_right.b z) h.0 h.1.0 in

@@ -1,17 +1,15 @@
 -- What is proved of normal forms: each run of a normal form is one of the form.
 use Rattle.std.specs.Prelude.{◌≡◌, ℕ, List, ◌∷◌, slice_get, Some}
-use Rattle.zl_value.specs.Instants.{Instant, History}
-use Rattle.zl_value.specs.System.{Course, IsFlow}
-use Rattle.zl_value.specs.Runs.{FlowAfter, IsRun}
+use Rattle.zl_value.specs.Instants.{History}
+use Rattle.zl_value.specs.Runs.{IsRun}
 use Rattle.zl_value.specs.Traces.{trace as trace_of}
-use Rattle.zl_value.specs.Correspondence.{IsWhole, AreReached, KeepsRuns}
+use Rattle.zl_value.specs.Correspondence.{KeepsRuns}
 use Rattle.zl_value.specs.Script.{IsScriptFor}
 use Rattle.zl_value.specs.declared.script.Script.{Script}
 use Rattle.zl_value.specs.declared.script.Ending.{Ending}
 use Rattle.zl_value.specs.declared.script.Ending.TheVariants.{Empty}
 use Rattle.zl_meaning.specs.FlatForm.{FlatForm}
 use Rattle.zl_meaning.specs.State.{Table, state_in, AtPlace}
-use Rattle.zl_meaning.specs.Flow.{FlowTable}
 use Rattle.zl_meaning.specs.Grades.{Grading}
 use Rattle.zl_meaning.specs.Inputs.{input_types}
 use Rattle.zl_meaning.specs.WellFormed.{IsWellFormed}
@@ -38,19 +36,13 @@ abbrev pub SeesPlaces : FlatForm → Wiring → History Registers → History Ta
 SeesPlaces f N (i ∷ h) (j ∷ g) = (p : ℕ) (place : PlaceInfo) → slice_get f.places p ≡ Some place → state_in j.table (AtPlace p) ≡ held i.table (N.P p)
 SeesPlaces f N _ _ = ⊥
 
--- a flow of the kernel has the fault of the form's flow beside it, where nothing is missing in it: the same slope is the first
--- that isn't in the width
-abbrev pub HaveSameFaults : FlatForm → List ℕ → KernelForm → Wiring → Script → Type 0
-HaveSameFaults f grades k N script = (h : History Registers) (g : History Table) (i : Instant Registers) (j : Instant Table) (y : Course Registers) → AreReached (system_of_kernel k) (system_of f grades) script same_sites (SeesPlaces f N) (i ∷ h) (j ∷ g) → FlowAfter (system_of_kernel k) script h i y → IsWhole ((system_of_kernel k).flow_fault h i y) ((system_of_kernel k).flow_lacks i y) → (flow : Course FlowTable) → IsFlow (system_of f grades) g j flow → (system_of f grades).flow_fault g j flow ≡ (system_of_kernel k).flow_fault h i y
-
 -- each beginning of a run of the kernel has one of the form beside it; so has each run that doesn't end for want of a value,
 -- with the same end, and the same is printed of both. `names` are the names of the file
 pub record KeepsRunsOf (f : FlatForm) (grades : List ℕ) (names : List (List ℕ)) (k : KernelForm) (N : Wiring) (script : Script) : Type 0 where
   pub runs : KeepsRuns (system_of_kernel k) (system_of f grades) script same_sites (SeesPlaces f N)
   pub traces : (h : History Registers) (ending : Ending) → IsRun (system_of_kernel k) script h ending → (ending ≡ Empty → ⊥) → (history : History Table) × IsRun (system_of f grades) script history ending × (trace f names history ending ≡ trace_of (system_of_kernel k) (outputs k) h ending)
 
--- a normal form keeps the runs of its form, with each script for its inputs, if its flows have the faults of the form's flows: of
--- a well-formed form that has the main block alone, is single and has ranks, in which `last` is evaluated only with the call of
--- its place, and that keeps its flows
+-- a normal form keeps the runs of its form, with each script for its inputs: of a well-formed form that has the main block
+-- alone, is single and has ranks, in which `last` is evaluated only with the call of its place, and that keeps its flows
 abbrev pub NormalFormKeepsRuns : Type 0
-NormalFormKeepsRuns = (f : FlatForm) (g : Grading) (names : List (List ℕ)) (k : KernelForm) (N : Wiring) → IsWellFormed f → IsMain f → IsSingle f → HasGuardRanks f → KeepsLasts f → KeepsFlows f g → IsNormal f g.occs names k N → (script : Script) → IsScriptFor (input_types f) script → HaveSameFaults f g.occs k N script → KeepsRunsOf f g.occs names k N script
+NormalFormKeepsRuns = (f : FlatForm) (g : Grading) (names : List (List ℕ)) (k : KernelForm) (N : Wiring) → IsWellFormed f → IsMain f → IsSingle f → HasGuardRanks f → KeepsLasts f → KeepsFlows f g → IsNormal f g.occs names k N → (script : Script) → IsScriptFor (input_types f) script → KeepsRunsOf f g.occs names k N script

@@ -1,5 +1,5 @@
 -- The wires of slopes. They are solved in flows alone.
-use Rattle.std.specs.Prelude.{◌≡◌, ℕ, suc, ◌+◌, ◌≤◌, ◌⊎◌, true, List, [], ◌∷◌, length, slice_get, get_or, Option, Some, None}
+use Rattle.std.specs.Prelude.{◌≡◌, ℕ, suc, ◌+◌, ◌≤◌, ◌⊎◌, true, List, [], ◌∷◌, length, map, slice_get, get_or, Option, Some, None}
 use Rattle.zl_value.specs.declared.op.Op.{Op}
 use Rattle.zl_value.specs.declared.op.Op.TheVariants.{AddFloat, SubFloat, MulFloat, DivFloat, NegFloat, EqFloat}
 use Rattle.zl_meaning.specs.FlatForm.{FlatForm}
@@ -15,7 +15,7 @@ use Rattle.zl_kernel.specs.FlowWires.{is_of_flows}
 use Rattle.zl_kernel.specs.declared.wire.Def.TheVariants.{Op as OpWire, If as IfWire}
 use Rattle.zl_kernel.specs.declared.memory.KMem.{KMem}
 use Rattle.zl_normal.specs.Wiring.{Wiring}
-use Rattle.zl_normal.specs.KernelParts.{IsFlowWire}
+use Rattle.zl_normal.specs.KernelParts.{IsWire, IsFlowWire}
 use Rattle.zl_normal.specs.FormWires.{IsBlankName}
 use Rattle.zl_normal.specs.PlaceWires.{definer_of}
 
@@ -95,7 +95,8 @@ module _ (f : FlatForm) (grades : List ℕ) (k : KernelForm) (N : Wiring) where
   IsPlaceSlope p (Some (Der b j arms)) = Unit {0}
   IsPlaceSlope p (Some (Start b j)) = ⊥
 
-  -- wire number `n` is the slope of an operator that has a grade, made from those of its operands
+  -- wire number `n` is the slope of an operator that has a grade and whose value isn't known before, made from those of its
+  -- operands
   pub record IsOwnSlope (n : ℕ) : Type 0 where
     pub j : ℕ
     pub occ : Occ
@@ -104,6 +105,7 @@ module _ (f : FlatForm) (grades : List ℕ) (k : KernelForm) (N : Wiring) where
     pub is : slice_get f.occs j ≡ Some occ
     pub form : occ.form ≡ Apply op ks
     pub graded : Moves j
+    pub value : IsWire k (N.w j) (OpWire op (map N.w ks)) (N.G j)
     pub made : IsSlopeMade j occ op ks
     pub same : N.S j ≡ n
 

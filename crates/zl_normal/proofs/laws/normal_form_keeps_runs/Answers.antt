@@ -2,4 +2,4 @@ use Rattle.zl_normal.proofs.Runs.{normal_runs}
 use Rattle.zl_normal.proofs.laws.normal_form_keeps_runs.Goals as goal
 
 pub returns : goal.returns
-returns c = λ f g names k N formed main single ranks lasts keeps normal script suits faults. normal_runs f g names k N script main single ranks lasts normal formed keeps suits faults
+returns c = λ f g names k N formed main single ranks lasts keeps normal script suits. normal_runs f g names k N script main single ranks lasts normal formed keeps suits
