@@ -1,0 +1,18 @@
+//! Laws of the definitions. Each is a function without a body, whose contract is the law.
+ghost use Rattle.zl_premises.specs.Moving.{TableMoves, GradesKeepMoving};
+ghost use Rattle.zl_premises.specs.Starting.{GradesStartRight};
+
+/// By the table of grades what moves by a `der` doesn't stand still.
+pub fn table_moves()
+    ensures { TableMoves }
+{}
+
+/// A form whose grades are allowed keeps them, by a grading by which what moves by a `der` doesn't stand still.
+pub fn grades_keep_moving()
+    ensures { GradesKeepMoving }
+{}
+
+/// Such a form has no fault where a flow begins, if no step is demanded.
+pub fn grades_start_right()
+    ensures { GradesStartRight }
+{}
