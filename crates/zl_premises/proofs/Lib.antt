@@ -1,3 +1,5 @@
 pub mod Moving
 pub mod Grounded
 pub mod Starting
+pub mod Untested
+pub mod Lasts

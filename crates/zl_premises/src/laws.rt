@@ -1,4 +1,5 @@
 //! Laws of the definitions. Each is a function without a body, whose contract is the law.
+ghost use Rattle.zl_premises.specs.Lasts.{LastsAreKept};
 ghost use Rattle.zl_premises.specs.Moving.{TableMoves, GradesKeepMoving};
 ghost use Rattle.zl_premises.specs.Starting.{GradesStartRight};
 
@@ -15,4 +16,9 @@ pub fn grades_keep_moving()
 /// Such a form has no fault where a flow begins, if no step is demanded.
 pub fn grades_start_right()
     ensures { GradesStartRight }
+{}
+
+/// Where `last` of a place stands in the copy in which the place does, it is evaluated only with the call of that copy.
+pub fn lasts_are_kept()
+    ensures { LastsAreKept }
 {}
