@@ -32,7 +32,8 @@ use Rattle.zl_normal.specs.KernelParts.{IsMemory}
 use Rattle.zl_normal.specs.Wiring.{Wiring, call_guard}
 use Rattle.zl_normal.specs.FormWires.{IsOcc, IsPlaceOf}
 use Rattle.zl_normal.specs.Normal.{IsNormalAtInstants}
-use Rattle.zl_normal.proofs.Instants.{agrees, fresh_wire}
+use Rattle.zl_normal.proofs.InstantPlaces.{fresh_wire}
+use Rattle.zl_normal.proofs.Instants.{agrees}
 
 pub some_is : {X : Type 0} (a b : X) → Some a ≡ Some b → a ≡ b
 some_is {X = X} a b e = ap (λ x. or_else x) e

@@ -1,5 +1,5 @@
 -- The law of a moment: a solution of a normal form's wires, read at its names, is the solution of the form's equations, at instants and at moment 0 of flows (there if exact results are in the width).
-use Rattle.std.specs.Prelude.{◌≡◌, ℕ, zero, suc, ◌<◌, Bool, true, false, not, ◌&&◌, ◌||◌, if◌then◌else◌, List, [], ◌∷◌, map, slice_get, get_or, Option, Some, None, ⊤}
+use Rattle.std.specs.Prelude.{◌≡◌, ℕ, zero, suc, ◌<◌, Bool, true, false, not, ◌&&◌, ◌||◌, if◌then◌else◌, List, [], ◌∷◌, map, slice_get, Option, Some, None, ⊤}
 use Rattle.std.specs.List.{AllByRecursion}
 use Rattle.std.specs.Option.{option_map, option_and_then}
 use Rattle.std.proofs.Common.{refl, sym, ap, ap₂, ◌∙◌, arith, subst}
@@ -11,16 +11,13 @@ use Rattle.zl_value.specs.declared.value.Value.{Value}
 use Rattle.zl_value.specs.declared.value.Value.TheVariants.{B, I, F}
 use Rattle.zl_value.specs.declared.op.Op.{Op}
 use Rattle.zl_meaning.specs.FlatForm.{FlatForm}
-use Rattle.zl_meaning.specs.Uses.{Use, PartOf, BranchOf, DefinerOf, SlopeOf, EventOf, StartOf, ResetOf, TestOf, ArgumentOf, AgainOf, uses_of, events_of}
-use Rattle.zl_meaning.specs.State.{Node, AtControl, AtReset, AtLater, AtEntry, AtRunning, AtStrong, AtWeak, AtPlace, AtUsed, AtValue, State, if_used, value_in}
+use Rattle.zl_meaning.specs.Uses.{Use, PartOf, BranchOf, DefinerOf, SlopeOf, EventOf, StartOf, ResetOf, TestOf, ArgumentOf, AgainOf, uses_of}
+use Rattle.zl_meaning.specs.State.{Node, AtControl, AtReset, AtLater, AtEntry, AtRunning, AtStrong, AtWeak, AtPlace, AtUsed, AtValue, State, value_in}
 use Rattle.zl_meaning.specs.Moment.{Mode, AtStep, AtLeft, InFlow, Moment, is_at_step, is_fresh, is_called, decide, decide_by, is_number}
-use Rattle.zl_meaning.specs.Places.{last_of, reset_value, der_value}
+use Rattle.zl_meaning.specs.Places.{last_of}
 use Rattle.zl_meaning.specs.Occurrences.{gathered, applied, branch, any_holds, fired_answer, answer, asks, is_asked, takes}
 use Rattle.zl_meaning.specs.Equation.{equation}
-use Rattle.zl_meaning.specs.Reading.{Entries, ReadsValues, ReadsCall, ReadsStart, ReadsLastOf, ReadsArm, ReadsDefiner, ReadsPlace, ReadsForm, ReadsValue, ReadsUse, ReadsAsked, ReadsUsed, Reads}
-use Rattle.zl_meaning.specs.declared.place.Definer.{Definer}
-use Rattle.zl_meaning.specs.declared.place.Definer.TheVariants.{Input, Plain, Der, Start}
-use Rattle.zl_meaning.specs.declared.place.DerArm.{DerArm}
+use Rattle.zl_meaning.specs.Reading.{Entries, ReadsValues, ReadsLastOf, ReadsForm, ReadsValue, ReadsUse, ReadsAsked, ReadsUsed, Reads}
 use Rattle.zl_meaning.specs.declared.place.PlaceInfo.{PlaceInfo}
 use Rattle.zl_meaning.specs.declared.occurrence.Form.{Form}
 use Rattle.zl_meaning.specs.declared.occurrence.Form.TheVariants.{Lit, Read, Last, Op as Apply, If, Arrow, Pre, Result, Up, Fired, Step as AtSteps}
@@ -28,25 +25,16 @@ use Rattle.zl_meaning.specs.declared.occurrence.Occ.{Occ}
 use Rattle.zl_kernel.specs.KernelForm.{KernelForm}
 use Rattle.zl_kernel.specs.Wires.{Registers, held, is_open, turn, Moment as KernelMoment, is_at_step as at_step, gathered as collected, applied as worked}
 use Rattle.zl_normal.specs.KernelParts.{IsWire}
-use Rattle.zl_normal.specs.Guards.{IsUnder, Chained, Copied, Known}
 use Rattle.zl_normal.specs.Wiring.{Wiring, call_guard}
-use Rattle.zl_normal.specs.FormWires.{IsOcc, IsCall, IsPlaceOf, IsPart, AreParts, AreLits, IsApplied, Made, Folded, AreBranches, Apart, Either, IsBlankName, IsUp, IsChosen, Yes, No, Keeper, IsFormWire}
+use Rattle.zl_normal.specs.FormWires.{IsOcc, IsPart, AreParts, IsApplied, Made, Folded, AreBranches, Apart, Either, IsUp, IsChosen, Yes, No, Keeper, IsFormWire}
 use Rattle.zl_normal.specs.UseGuards.{IsBranch, IsPartOf, IsGuardFor, IsGuardBy, Unused, Once, OfCall, OfBranches, IsTaken, Here, Later, Never}
-use Rattle.zl_normal.specs.PlaceWires.{definer_of, start_of, IsLast, NoStart, LitStart, ByStart, IsReset, Stays, Sure, Tested, IsDefined}
 use Rattle.zl_normal.specs.Evaluated.{HasGuardRanks}
 use Rattle.zl_normal.specs.Normal.{IsNormalAtInstants}
-use Rattle.zl_kernel.specs.declared.wire.Def.TheVariants.{Mem, In, Event, Step, Op as OpWire}
-use Rattle.zl_normal.proofs.Wires.{given_is, if_used_true, AreBools, some_of, wire_is, lit_is, copy_is, if_is, under_is, but_is, either_is, guarded_is, any_is}
+use Rattle.zl_kernel.specs.declared.wire.Def.TheVariants.{Event, Op as OpWire}
+use Rattle.zl_normal.proofs.Wires.{given_is, if_used_true, AreBools, some_of, wire_is, lit_is, if_is, under_is, but_is, either_is, guarded_is, any_is}
 use Rattle.zl_normal.specs.MainBlock.{IsMain}
-use Rattle.zl_normal.proofs.Values.{Agrees, Together, if_same, used_same, branch_same, branch_none, and_same, and_both, mode_step, holds_is, fresh_is, started_by, defined_by, last_if, place_if, value_if, used_if}
-
-some_or : {X : Type 0} → Option X → X → X
-some_or None d = d
-some_or (Some y) d = y
-
-the : {X : Type 0} (a b : X) → Some a ≡ Some b → a ≡ b
-unfolding some_or
-the a b e = ap (λ x. some_or x a) e
+use Rattle.zl_normal.proofs.Values.{Agrees, Together, used_same, branch_same, branch_none, and_same, and_both, mode_step, fresh_is, value_if, used_if}
+use Rattle.zl_normal.proofs.InstantPlaces.{Claim, blank_is, called_is, fresh_wire, gathered_is, last_is, lits_are, memory_is, part_is, place_is, start_read, step_is}
 
 first_number : (v : Option Value) (d : Option ℕ) → is_number 0 (decide_by v d) ≡ holds v
 first_number (Some (B true)) d = refl
@@ -64,12 +52,6 @@ next_number n (Some (I i)) d = refl
 next_number n (Some (F i)) d = refl
 next_number n None d = refl
 
-left_apart : AtLeft ≡ AtStep → ⊥
-left_apart e = absurd cc
-
-flow_apart : InFlow ≡ AtStep → ⊥
-flow_apart e = absurd cc
-
 regroup : (a b c : Bool) → (a && (b && c)) ≡ (a && b && c)
 regroup true b c = refl
 regroup false b c = refl
@@ -79,195 +61,7 @@ never true = refl
 never false = refl
 
 module _ (f : FlatForm) (k : KernelForm) (N : Wiring) (main : IsMain f) (normal : IsNormalAtInstants f k N) (m : Moment) (km : KernelMoment) (rp : Registers) (pm : KernelMoment) (with : Together f k N m km rp pm) (s : State) (solved : (a : Node) → s a ≡ equation f m s a) (r : Registers) (wired : r ≡ turn k km r) (exact : (j : ℕ) (occ : Occ) (op : Op) (ks : List ℕ) → slice_get f.occs j ≡ Some occ → occ.form ≡ Apply op ks → s (AtUsed j) ≡ true → applied m.mode op (gathered s ks) ≡ worked op (gathered s ks)) where
-  abbrev pub Claim : Node → Type 0
-  Claim (AtControl b) = Unit {0}
-  Claim (AtReset b) = Unit {0}
-  Claim (AtLater b) = Unit {0}
-  Claim (AtEntry a) = Unit {0}
-  Claim (AtRunning a) = Unit {0}
-  Claim (AtStrong a) = Unit {0}
-  Claim (AtWeak a) = Unit {0}
-  Claim (AtPlace p) = IsPlaceOf f p → s (AtPlace p) ≡ held r (N.P p)
-  Claim (AtUsed j) = IsOcc f j → s (AtUsed j) ≡ is_open (held r) (N.G j)
-  Claim (AtValue j) = IsOcc f j → is_open (held r) (N.G j) ≡ true → s (AtValue j) ≡ held r (N.w j)
-
-  instant_too : Unit {0}
-  instant_too = tt
-
-  -- the wires that are true at a step and at the first instant
-  step_is : held r N.step ≡ Some (B (is_at_step m.mode))
-  step_is = wire_is k km r wired instant_too N.step Step None normal.step ∙ ap (λ x. Some (B (at_step x))) with.mode ∙ ap (λ x. Some (B x)) (mode_step m.mode)
-
-  memory_is : (n c : ℕ) → IsWire k n (Mem c) None → held r n ≡ held km.memories c
-  memory_is n c is = wire_is k km r wired instant_too n (Mem c) None is ∙ given_is (held km.memories c)
-
-  pub fresh_wire : held r N.fresh ≡ Some (B (not (m.live 0)))
-  fresh_wire = memory_is N.fresh N.first normal.fresh ∙ with.memories N.first (Some (B true)) normal.first.0 normal.first.2 ∙ by (m.live 0) refl
-    where
-      by : (b : Bool) → m.live 0 ≡ b → (if b then held rp normal.first.0 else Some (B true)) ≡ Some (B (not b))
-      by true e = let q = with.before e in lit_is k pm rp q.1 tt normal.first.0 (B false) normal.first.1
-      by false e = refl
-
-  module _ (P Q : Entries) (ih : (b : Node) → P b → Claim b) where
-    called_is : (call : Option ℕ) → IsCall f call → ReadsCall P call → is_called s call ≡ is_open (held r) (call_guard N call)
-    called_is None there rd = refl
-    called_is (Some call) there rd = ih (AtUsed call) rd there
-
-    part_is : (whole j : ℕ) → IsPart f k N whole j → P (AtValue j) → is_open (held r) (N.G whole) ≡ true → s (AtValue j) ≡ held r (N.w j)
-    part_is whole j part rd o = ih (AtValue j) rd part.there (ap (λ g. is_open (held r) g) part.guard ∙ o)
-
-    gathered_is : (whole : ℕ) (js : List ℕ) → AreParts f k N whole js → ReadsValues P js → is_open (held r) (N.G whole) ≡ true → gathered s js ≡ collected (held r) (map N.w js)
-    gathered_is whole [] parts rd o = refl
-    gathered_is whole (j ∷ js) parts rd o = let x = part_is whole j parts.0 rd.0 o in let y = gathered_is whole js parts.1 rd.1 o in rw (x, y) refl
-
-    lits_are : (js : List ℕ) (vs : List Value) → AreLits f k N js vs → collected (held r) (map N.w js) ≡ Some vs
-    lits_are [] [] are = refl
-    lits_are [] (v ∷ vs) are = absurd are
-    lits_are (j ∷ js) [] are = absurd are
-    lits_are (j ∷ js) (v ∷ vs) are = let x = lit_is k km r wired instant_too (N.w j) v are.0 in let y = lits_are js vs are.1 in rw (x, y) refl
-
-    -- the value of `last`, if the place's call is evaluated where its `init` is asked for
-    last_is : (p : ℕ) (place : PlaceInfo) → slice_get f.places p ≡ Some place → IsLast f k N p place.call (start_of place.definers) (N.L p) → ((j : ℕ) → start_of place.definers ≡ Some j → P (AtValue j)) → (m.live 0 ≡ false → is_open (held r) (call_guard N place.call) ≡ true) → last_of m s p (Some place) ≡ held r (N.L p)
-    last_is p place is of rd opens = last_if f main m s solved with.instant p place is ∙ by (start_of place.definers) (N.L p) of rd
-      where
-        before : (b : Bool) → m.live 0 ≡ b → b ≡ true → m.before (AtPlace p) ≡ held rp (N.P p)
-        before b e t = (with.before (e ∙ t)).0.places p (place, is)
-
-        remembered : (b : Bool) (start : Option Value) (x : Option Value) → m.live 0 ≡ b → (b ≡ false → x ≡ start) → (if not b then x else m.before (AtPlace p)) ≡ (if b then held rp (N.P p) else start)
-        remembered true start x e q = before true e refl
-        remembered false start x e q = q refl
-
-        by : (j : Option ℕ) (n : ℕ) → IsLast f k N p place.call j n → ((i : ℕ) → j ≡ Some i → P (AtValue i)) → (if not (m.live 0) then started_by f main m s solved with.instant j None else m.before (AtPlace p)) ≡ held r n
-        by _ _ (NoStart n c wire mem) rd = remembered (m.live 0) None None refl (λ e. refl) ∙ sym (memory_is n c wire ∙ with.memories c None (N.P p) mem)
-        by _ _ (LitStart j n c occ v at form wire mem) rd =
-            remembered (m.live 0) (Some v) (s (AtValue j)) refl (λ e. value_if f main m s solved with.instant j occ at ∙ ap (λ x. answered (answer f m s 0 x)) form)
-            ∙ sym (memory_is n c wire ∙ with.memories c (Some v) (N.P p) mem)
-        by _ _ (ByStart j n x c there under wire old mem) rd =
-            choose (m.live 0) refl
-            ∙ sym (if_is k km r wired instant_too n N.fresh (N.w j) x None wire ∙ ap (λ v. branch v (held r (N.w j)) (held r x)) fresh_wire)
-          where
-            choose : (b : Bool) → m.live 0 ≡ b → (if not b then s (AtValue j) else m.before (AtPlace p)) ≡ branch (Some (B (not b))) (held r (N.w j)) (held r x)
-            choose true e = before true e refl ∙ sym (memory_is x c old ∙ with.memories c None (N.P p) mem ∙ ap (λ b. if b then held rp (N.P p) else None) e)
-            choose false e =
-                ih (AtValue j) (rd j refl) there
-                (under_is k km r wired instant_too (call_guard N place.call) N.fresh (N.G j) under
-                ∙ and_both _ _ (opens e) (ap (λ x. holds x) fresh_wire ∙ ap (λ b. not b) e))
-
-    -- what reads what
-    start_read : (definers : List Definer) (j : ℕ) → AllByRecursion (ReadsStart P Q) definers → start_of definers ≡ Some j → P (AtValue j)
-    start_read [] j rd e = absurd cc
-    start_read (Input n ∷ definers) j rd e = start_read definers j rd.1 e
-    start_read (Plain b i ∷ definers) j rd e = start_read definers j rd.1 e
-    start_read (Der b i arms ∷ definers) j rd e = start_read definers j rd.1 e
-    start_read (Start b i ∷ definers) j rd e = subst (λ x. P (AtValue x)) (the i j e) rd.0.1
-
-    definer_read : (p : ℕ) (definers : List Definer) (definer : Definer) → AllByRecursion (ReadsDefiner P Q p) definers → definer_of definers ≡ Some definer → ReadsDefiner P Q p definer
-    definer_read p [] definer rd e = absurd cc
-    definer_read p (Input n ∷ definers) definer rd e = subst (λ x. ReadsDefiner P Q p x) (the (Input n) definer e) rd.0
-    definer_read p (Plain b i ∷ definers) definer rd e = subst (λ x. ReadsDefiner P Q p x) (the (Plain b i) definer e) rd.0
-    definer_read p (Der b i arms ∷ definers) definer rd e = subst (λ x. ReadsDefiner P Q p x) (the (Der b i arms) definer e) rd.0
-    definer_read p (Start b i ∷ definers) definer rd e = definer_read p definers definer rd.1 e
-
-    -- reset arms: `h` holds what the event does where no arm before is taken
-    test_is : (rest c h : ℕ) → IsUnder k (Some rest) c (Some h) → holds (held r rest) ≡ true → held r h ≡ held r c
-    test_is rest c h under o = by (Some h) h under refl
-      where
-        by : (g : Option ℕ) (n : ℕ) → IsUnder k (Some rest) c g → g ≡ Some n → held r n ≡ held r c
-        by _ n (Chained of) e = ap (λ x. held r x) (sym (the c n e))
-        by _ n (Copied x is) e = ap (λ y. held r y) (sym (the x n e)) ∙ copy_is k km r wired instant_too x c (Some rest) is ∙ if_used_true (holds (held r rest)) (held r c) o
-        by _ n (Known is) e = ap (λ y. held r y) (sym (the rest n e)) ∙ holds_is (held r rest) o ∙ sym (lit_is k km r wired instant_too c (B true) is)
-
-    skips : (arm : DerArm) (arms : List DerArm) (d : Option ℕ) (last : Option Value) → reset_value s (arm ∷ arms) (option_map (λ n. suc n) d) last ≡ reset_value s arms d last
-    skips arm arms None last = refl
-    skips arm arms (Some n) last = refl
-
-    reset_is : (call : Option ℕ) (last : ℕ) (arms : List DerArm) (rest x : ℕ) → IsReset f k N last call arms rest x → AllByRecursion (ReadsArm P) arms → is_open (held r) (call_guard N call) ≡ true → holds (held r rest) ≡ true → (v : Option Value) → v ≡ held r last → reset_value s arms (decide s (events_of arms)) v ≡ held r x
-    reset_is call last _ _ _ (Stays rest) rd o h v e = e
-    reset_is call last _ _ _ (Sure arm arms rest event lit there under) rd o h v e =
-        let ev : s (AtValue arm.event) ≡ Some (B true) = ih (AtValue arm.event) rd.0.0 event.there (ap (λ g. is_open (held r) g) event.guard ∙ o) ∙ lit_is k km r wired instant_too (N.w arm.event) (B true) lit in
-        ap (λ t. reset_value s (arm ∷ arms) (decide_by t (decide s (events_of arms))) v) ev
-        ∙ ih (AtValue arm.value) rd.0.1 there (under_is k km r wired instant_too (call_guard N call) rest (N.G arm.value) under ∙ and_both _ _ o h)
-    reset_is call last _ _ _ (Tested arm arms rest h n x y event test but there under more wire) rd o hr v e =
-        ap (λ t. reset_value s (arm ∷ arms) (decide_by t (decide s (events_of arms))) v) ev
-        ∙ by (λ q. reset_is call last arms n y more rd.1 o q v e) (held r (N.w arm.event)) refl
-        ∙ sym (if_is k km r wired instant_too x h (N.w arm.value) y None wire ∙ ap (λ t. branch t (held r (N.w arm.value)) (held r y)) (test_is rest (N.w arm.event) h test hr))
-      where
-        ev : s (AtValue arm.event) ≡ held r (N.w arm.event)
-        ev = ih (AtValue arm.event) rd.0.0 event.there (ap (λ g. is_open (held r) g) event.guard ∙ o)
-
-        by : (holds (held r n) ≡ true → reset_value s arms (decide s (events_of arms)) v ≡ held r y) → (t : Option Value) → held r (N.w arm.event) ≡ t → reset_value s (arm ∷ arms) (decide_by t (decide s (events_of arms))) v ≡ branch t (held r (N.w arm.value)) (held r y)
-        by more_is (Some (B true)) q =
-            ih (AtValue arm.value) rd.0.1 there (under_is k km r wired instant_too (call_guard N call) h (N.G arm.value) under ∙ and_both _ _ o (ap (λ w. holds w) (test_is rest (N.w arm.event) h test hr ∙ q)))
-        by more_is (Some (B false)) q =
-            skips arm arms (decide s (events_of arms)) v
-            ∙ more_is (but_is k km r wired instant_too (Some rest) (N.w arm.event) (Some n) but ∙ and_both _ _ hr (ap (λ w. fails w) q))
-        by more_is (Some (I i)) q = refl
-        by more_is (Some (F i)) q = refl
-        by more_is None q = refl
-
-    -- the value of a place
-    defined_same : (p : ℕ) (place : PlaceInfo) → slice_get f.places p ≡ Some place → (definer : Option Definer) → definer_of place.definers ≡ definer → IsDefined f k N p place definer → ReadsPlace P Q p (Some place) → is_open (held r) (call_guard N place.call) ≡ true → defined_by f main m s solved with.instant p definer (last_of m s p (Some place)) ≡ held r (N.P p)
-    defined_same p place is None e d rd o =
-        last_is p place is d.0 (λ j q. start_read place.definers j rd.3.2 q) (λ q. o)
-        ∙ sym (guarded_is k km r wired instant_too (N.L p) (call_guard N place.call) (N.P p) d.1 ∙ if_used_true _ _ o)
-    defined_same p place is (Some (Input n)) e d rd o =
-        ap (λ l. get_or l n None) (sym with.inputs) ∙ sym (wire_is k km r wired instant_too (N.P p) (In n) (call_guard N place.call) d ∙ if_used_true _ _ o ∙ given_is (held km.inputs n))
-    defined_same p place is (Some (Plain b j)) e d rd o =
-        ih (AtValue j) (definer_read p place.definers (Plain b j) rd.2 e).1 d.0 (ap (λ g. is_open (held r) g) d.1 ∙ o)
-        ∙ sym (guarded_is k km r wired instant_too (N.w j) (call_guard N place.call) (N.P p) d.2 ∙ if_used_true _ _ o)
-    defined_same p place is (Some (Start b j)) e d rd o = absurd d
-    defined_same p place is (Some (Der b j arms)) e d rd o =
-        by m.mode refl
-        ∙ sym (if_is k km r wired instant_too (N.P p) N.step d.at_step d.between (call_guard N place.call) d.wire ∙ if_used_true _ _ o ∙ ap (λ t. branch t (held r d.at_step) (held r d.between)) step_is)
-      where
-        by : (mode : Mode) → m.mode ≡ mode → der_value m s mode p j arms (last_of m s p (Some place)) ≡ branch (Some (B (is_at_step mode))) (held r d.at_step) (held r d.between)
-        by AtStep q =
-            reset_is place.call (N.L p) arms N.step d.at_step d.reset (definer_read p place.definers (Der b j arms) rd.2 e).3 o (ap (λ x. holds x) step_is ∙ ap (λ x. is_at_step x) q) (last_of m s p (Some place))
-            (last_is p place is d.last (λ i w. start_read place.definers i rd.3.2 w) (λ w. o))
-        by AtLeft q = sym (memory_is d.between d.memory d.kept ∙ with.moves p place b j d.memory d.slope arms None is e d.moves (λ z. let w : AtLeft ≡ AtStep = sym q ∙ z in absurd (left_apart w)))
-        by InFlow q = sym (memory_is d.between d.memory d.kept ∙ with.moves p place b j d.memory d.slope arms None is e d.moves (λ z. let w : InFlow ≡ AtStep = sym q ∙ z in absurd (flow_apart w)))
-
-    place_is : (p : ℕ) → ReadsPlace P Q p (slice_get f.places p) → IsPlaceOf f p → s (AtPlace p) ≡ held r (N.P p)
-    place_is p rd there =
-        let place = there.0 in
-        let is = there.1 in
-        let reads : ReadsPlace P Q p (Some place) = subst (λ x. ReadsPlace P Q p x) is rd in
-        let d = normal.places p place is in
-        place_if f main m s solved with.instant p place is
-        ∙ ap (λ b. if b then defined_by f main m s solved with.instant p (definer_of place.definers) (last_of m s p (Some place)) else None) (called_is place.call d.0 reads.1)
-        ∙ if_same (is_open (held r) (call_guard N place.call)) _ (held r (N.P p)) (λ o. defined_same p place is (definer_of place.definers) refl d.1 reads o)
-        ∙ closed p place.call (definer_of place.definers) place d.1
-      where
-        twice : (b : Bool) (x y : Option Value) → x ≡ if_used b y → if_used b x ≡ x
-        twice true x y e = refl
-        twice false x y e = sym e
-
-        closed : (p : ℕ) (call : Option ℕ) (definer : Option Definer) (place : PlaceInfo) → IsDefined f k N p place definer → if_used (is_open (held r) (call_guard N place.call)) (held r (N.P p)) ≡ held r (N.P p)
-        closed p call None place d = twice _ _ _ (guarded_is k km r wired instant_too (N.L p) (call_guard N place.call) (N.P p) d.1)
-        closed p call (Some (Input n)) place d = twice _ _ _ (wire_is k km r wired instant_too (N.P p) (In n) (call_guard N place.call) d)
-        closed p call (Some (Plain b j)) place d = twice _ _ _ (guarded_is k km r wired instant_too (N.w j) (call_guard N place.call) (N.P p) d.2)
-        closed p call (Some (Der b j arms)) place d = twice _ _ _ (if_is k km r wired instant_too (N.P p) N.step d.at_step d.between (call_guard N place.call) d.wire)
-        closed p call (Some (Start b j)) place d = absurd d
-
-    -- a name of a place that is never defined has no value
-    blank_is : (y : ℕ) → IsBlankName f y → s (AtValue y) ≡ None
-    blank_is y blank =
-        value_if f main m s solved with.instant y blank.occ blank.is
-        ∙ ap (λ x. answered (answer f m s 0 x)) blank.form
-        ∙ given_is (s (AtPlace blank.p))
-        ∙ place_if f main m s solved with.instant blank.p blank.place blank.place_is
-        ∙ ap (λ x. if is_called s blank.place.call then defined_by f main m s solved with.instant blank.p (definer_of x) (last_of m s blank.p (Some blank.place)) else None) blank.definers
-        ∙ none_too (is_called s blank.place.call) (last_of m s blank.p (Some blank.place))
-        (last_if f main m s solved with.instant blank.p blank.place blank.place_is ∙ ap (λ x. if not (m.live 0) then started_by f main m s solved with.instant (start_of x) None else m.before (AtPlace blank.p)) blank.definers ∙ none (m.live 0) (m.before (AtPlace blank.p)) (with.blank blank.p blank.place blank.place_is blank.definers))
-      where
-        none : (b : Bool) (x : Option Value) → x ≡ None → (if not b then None else x) ≡ None
-        none true x e = e
-        none false x e = refl
-
-        none_too : (b : Bool) (x : Option Value) → x ≡ None → (if b then x else None) ≡ None
-        none_too true x e = e
-        none_too false x e = refl
-
+  module _ (P Q : Entries) (ih : (b : Node) → P b → Claim f k N main normal m km rp pm with s solved r wired exact b) where
     -- events
     ups_are : (whole : ℕ) (js : List ℕ) → AreParts f k N whole js → AllByRecursion (IsUp f) js → ReadsValues P js → is_open (held r) (N.G whole) ≡ true → (bs : List Bool) × AreBools (held r) (map N.w js) bs × (any_holds (gathered s js) ≡ Gives (B (some_of bs))) × (is_at_step m.mode ≡ false → some_of bs ≡ false)
     ups_are whole [] parts ups rd o = ([], tt, refl, λ e. refl)
@@ -276,8 +70,8 @@ module _ (f : FlatForm) (k : KernelForm) (N : Wiring) (main : IsMain f) (normal 
         let up = normal.forms j ups.0.1 ups.0.2 in
         let wire : IsWire k (N.w j) (Event ups.0.0) None = subst (λ x. IsFormWire f k N j ups.0.1 x) ups.0.3 up in
         let b = at_step km.mode && among ups.0.0 km.fired in
-        let is : held r (N.w j) ≡ Some (B b) = wire_is k km r wired instant_too (N.w j) (Event ups.0.0) None wire in
-        let v : s (AtValue j) ≡ Some (B b) = part_is whole j parts.0 rd.0 o ∙ is in
+        let is : held r (N.w j) ≡ Some (B b) = wire_is k km r wired tt (N.w j) (Event ups.0.0) None wire in
+        let v : s (AtValue j) ≡ Some (B b) = part_is f k N main normal m km rp pm with s solved r wired exact P Q ih whole j parts.0 rd.0 o ∙ is in
         (b ∷ rest.0, (is, rest.1), more (gathered s js) (s (AtValue j)) b (some_of rest.0) v rest.2, λ e. none (at_step km.mode) (among ups.0.0 km.fired) (some_of rest.0) (ap (λ x. at_step x) with.mode ∙ mode_step m.mode ∙ e) (rest.3 e))
       where
         more : (vs : Option (List Value)) (x : Option Value) (b c : Bool) → x ≡ Some (B b) → any_holds vs ≡ Gives (B c) → any_holds (option_and_then (λ v. option_map (λ ws. v ∷ ws) vs) x) ≡ Gives (B (b || c))
@@ -293,15 +87,15 @@ module _ (f : FlatForm) (k : KernelForm) (N : Wiring) (main : IsMain f) (normal 
 
     -- a branch is evaluated where its side is taken
     yes_is : (j c x y : ℕ) → AreBranches f k N j c x y → is_open (held r) (N.G j) ≡ true → holds (held r (N.w c)) ≡ true → is_open (held r) (N.G x) ≡ true
-    yes_is j c x y (Apart under but) o e = under_is k km r wired instant_too (N.G j) (N.w c) (N.G x) under ∙ and_both _ _ o e
+    yes_is j c x y (Apart under but) o e = under_is k km r wired tt (N.G j) (N.w c) (N.G x) under ∙ and_both _ _ o e
     yes_is j c x y (Either same either) o e =
-        either_is k km r wired instant_too (N.G j) (N.w c) (N.G x) either ∙ and_both _ _ o (ap (λ b. b || fails (held r (N.w c))) e)
+        either_is k km r wired tt (N.G j) (N.w c) (N.G x) either ∙ and_both _ _ o (ap (λ b. b || fails (held r (N.w c))) e)
 
     no_is : (j c x y : ℕ) → AreBranches f k N j c x y → is_open (held r) (N.G j) ≡ true → fails (held r (N.w c)) ≡ true → is_open (held r) (N.G y) ≡ true
-    no_is j c x y (Apart under but) o e = but_is k km r wired instant_too (N.G j) (N.w c) (N.G y) but ∙ and_both _ _ o e
+    no_is j c x y (Apart under but) o e = but_is k km r wired tt (N.G j) (N.w c) (N.G y) but ∙ and_both _ _ o e
     no_is j c x y (Either same either) o e =
         ap (λ z. is_open (held r) (N.G z)) (sym same)
-        ∙ either_is k km r wired instant_too (N.G j) (N.w c) (N.G x) either ∙ and_both _ _ o (ap (λ b. holds (held r (N.w c)) || b) e ∙ or_true (holds (held r (N.w c))))
+        ∙ either_is k km r wired tt (N.G j) (N.w c) (N.G x) either ∙ and_both _ _ o (ap (λ b. holds (held r (N.w c)) || b) e ∙ or_true (holds (held r (N.w c))))
       where
         or_true : (b : Bool) → (b || true) ≡ true
         or_true true = refl
@@ -310,52 +104,52 @@ module _ (f : FlatForm) (k : KernelForm) (N : Wiring) (main : IsMain f) (normal 
     -- the value of an occurrence that is evaluated
     if_true : (j c x y : ℕ) → IsPart f k N j c → IsOcc f x → IsOcc f y → AreBranches f k N j c x y → P (AtValue c) → P (AtValue x) → P (AtValue y) → is_open (held r) (N.G j) ≡ true → branch (s (AtValue c)) (s (AtValue x)) (s (AtValue y)) ≡ branch (held r (N.w c)) (held r (N.w x)) (held r (N.w y))
     if_true j c x y part thex they sides pc px py o =
-        ap (λ t. branch t (s (AtValue x)) (s (AtValue y))) (part_is j c part pc o)
+        ap (λ t. branch t (s (AtValue x)) (s (AtValue y))) (part_is f k N main normal m km rp pm with s solved r wired exact P Q ih j c part pc o)
         ∙ branch_same (held r (N.w c)) _ _ _ _
         (λ e. ih (AtValue x) px thex (yes_is j c x y sides o e))
         (λ e. ih (AtValue y) py they (no_is j c x y sides o e))
 
     choose_is : (j c x y : ℕ) → IsChosen f k N j c x y → is_open (held r) (N.G j) ≡ true → (P (AtValue y) → s (AtValue y) ≡ s (AtValue y)) → branch (s (AtValue c)) (s (AtValue x)) (s (AtValue y)) ≡ branch (held r (N.w c)) (held r (N.w x)) (held r (N.w y)) → (holds (held r (N.w c)) ≡ true → s (AtValue x) ≡ held r (N.w x)) → s (AtValue c) ≡ held r (N.w c) → branch (s (AtValue c)) (s (AtValue x)) (s (AtValue y)) ≡ held r (N.w j)
-    choose_is j c x y (Made wire) o t e ex ec = e ∙ sym (if_is k km r wired instant_too (N.w j) (N.w c) (N.w x) (N.w y) (N.G j) wire ∙ if_used_true _ _ o)
-    choose_is j c x y (Yes lit same) o t e ex ec = e ∙ ap (λ b. branch b (held r (N.w x)) (held r (N.w y))) (lit_is k km r wired instant_too (N.w c) (B true) lit) ∙ ap (λ n. held r n) (sym same)
-    choose_is j c x y (No lit same) o t e ex ec = e ∙ ap (λ b. branch b (held r (N.w x)) (held r (N.w y))) (lit_is k km r wired instant_too (N.w c) (B false) lit) ∙ ap (λ n. held r n) (sym same)
+    choose_is j c x y (Made wire) o t e ex ec = e ∙ sym (if_is k km r wired tt (N.w j) (N.w c) (N.w x) (N.w y) (N.G j) wire ∙ if_used_true _ _ o)
+    choose_is j c x y (Yes lit same) o t e ex ec = e ∙ ap (λ b. branch b (held r (N.w x)) (held r (N.w y))) (lit_is k km r wired tt (N.w c) (B true) lit) ∙ ap (λ n. held r n) (sym same)
+    choose_is j c x y (No lit same) o t e ex ec = e ∙ ap (λ b. branch b (held r (N.w x)) (held r (N.w y))) (lit_is k km r wired tt (N.w c) (B false) lit) ∙ ap (λ n. held r n) (sym same)
     choose_is j c x y (Keeper blank wire) o t e ex ec =
-        branch_none (s (AtValue c)) (s (AtValue x)) (s (AtValue y)) (blank_is y blank)
+        branch_none (s (AtValue c)) (s (AtValue x)) (s (AtValue y)) (blank_is f k N main normal m km rp pm with s solved r wired exact P Q ih y blank)
         ∙ used_same (holds (s (AtValue c))) (holds (held r (N.w c))) (s (AtValue x)) (held r (N.w x)) (ap (λ v. holds v) ec) ex
-        ∙ sym (guarded_is k km r wired instant_too (N.w x) (Some (N.w c)) (N.w j) wire)
+        ∙ sym (guarded_is k km r wired tt (N.w x) (Some (N.w c)) (N.w j) wire)
 
     applied_is : (j : ℕ) (occ : Occ) (op : Op) (ks : List ℕ) → slice_get f.occs j ≡ Some occ → occ.form ≡ Apply op ks → IsApplied f k N j occ op ks → gathered s ks ≡ collected (held r) (map N.w ks) → is_open (held r) (N.G j) ≡ true → s (AtUsed j) ≡ true → answered (applied m.mode op (gathered s ks)) ≡ held r (N.w j)
     applied_is j occ op ks here form (Made wire ord at) e o used =
         ap (λ v. answered v) (exact j occ op ks here form used)
         ∙ ap (λ v. answered (worked op v)) e
-        ∙ sym (wire_is k km r wired instant_too (N.w j) (OpWire op (map N.w ks)) (N.G j) wire ∙ if_used_true _ _ o)
+        ∙ sym (wire_is k km r wired tt (N.w j) (OpWire op (map N.w ks)) (N.G j) wire ∙ if_used_true _ _ o)
     applied_is j occ op ks here form (Folded v vs lits fits lit) e o used =
         ap (λ v. answered v) (exact j occ op ks here form used)
-        ∙ ap (λ v. answered (worked op v)) (e ∙ lits_are ks vs lits)
+        ∙ ap (λ v. answered (worked op v)) (e ∙ lits_are f k N main normal m km rp pm with s solved r wired exact P Q ih ks vs lits)
         ∙ ap (λ v. answered v) fits
-        ∙ sym (lit_is k km r wired instant_too (N.w j) v lit)
+        ∙ sym (lit_is k km r wired tt (N.w j) v lit)
 
     form_is : (j : ℕ) (occ : Occ) → slice_get f.occs j ≡ Some occ → (form : Form) → occ.form ≡ form → IsFormWire f k N j occ form → ReadsForm f P Q 0 form → is_open (held r) (N.G j) ≡ true → s (AtUsed j) ≡ true → ((p : ℕ) (place : PlaceInfo) → form ≡ Last p → slice_get f.places p ≡ Some place → m.live 0 ≡ false → is_open (held r) (call_guard N place.call) ≡ true) → answered (answer f m s 0 form) ≡ held r (N.w j)
-    form_is j occ at (Lit v) q fm rd o used lasts = sym (lit_is k km r wired instant_too (N.w j) v fm)
+    form_is j occ at (Lit v) q fm rd o used lasts = sym (lit_is k km r wired tt (N.w j) v fm)
     form_is j occ at (Read p) q fm rd o used lasts = given_is (s (AtPlace p)) ∙ ih (AtPlace p) rd fm.0 ∙ ap (λ n. held r n) (sym fm.1)
     form_is j occ at (Last p) q fm rd o used lasts =
         let l = normal.lasts j p occ at q in
         let reads : ReadsLastOf P Q p (Some l.0) = subst (λ x. ReadsLastOf P Q p x) l.1 rd in
         given_is (last_of m s p (slice_get f.places p))
         ∙ ap (λ x. last_of m s p x) l.1
-        ∙ last_is p l.0 l.1 l.2 (λ i w. start_read l.0.definers i reads.2 w) (λ w. lasts p l.0 refl l.1 w)
+        ∙ last_is f k N main normal m km rp pm with s solved r wired exact P Q ih p l.0 l.1 l.2 (λ i w. start_read f k N main normal m km rp pm with s solved r wired exact P Q ih l.0.definers i reads.2 w) (λ w. lasts p l.0 refl l.1 w)
         ∙ ap (λ n. held r n) (sym fm)
-    form_is j occ at (Apply op ks) q fm rd o used lasts = applied_is j occ op ks at q fm.1 (gathered_is j ks fm.0 rd o) o used
+    form_is j occ at (Apply op ks) q fm rd o used lasts = applied_is j occ op ks at q fm.1 (gathered_is f k N main normal m km rp pm with s solved r wired exact P Q ih j ks fm.0 rd o) o used
     form_is j occ at (If c x y) q fm rd o used lasts =
         given_is (branch (s (AtValue c)) (s (AtValue x)) (s (AtValue y)))
         ∙ choose_is j c x y fm.4 o (λ z. refl) (if_true j c x y fm.0 fm.1 fm.2 fm.3 rd.0 rd.1 rd.2 o)
         (λ e. ih (AtValue x) rd.1 fm.1 (yes_is j c x y fm.3 o e))
-        (part_is j c fm.0 rd.0 o)
+        (part_is f k N main normal m km rp pm with s solved r wired exact P Q ih j c fm.0 rd.0 o)
     form_is j occ at (Arrow x y) q fm rd o used lasts =
         given_is (if is_fresh m s 0 then s (AtValue x) else s (AtValue y))
         ∙ ap (λ b. if b then s (AtValue x) else s (AtValue y)) (fresh_is f main m s solved with.instant)
-        ∙ chosen (not (m.live 0)) _ _ _ _ (part_is j x fm.0 rd.1 o) (part_is j y fm.1 rd.2 o)
-        ∙ sym (if_is k km r wired instant_too (N.w j) N.fresh (N.w x) (N.w y) (N.G j) fm.2 ∙ if_used_true _ _ o ∙ ap (λ v. branch v (held r (N.w x)) (held r (N.w y))) fresh_wire)
+        ∙ chosen (not (m.live 0)) _ _ _ _ (part_is f k N main normal m km rp pm with s solved r wired exact P Q ih j x fm.0 rd.1 o) (part_is f k N main normal m km rp pm with s solved r wired exact P Q ih j y fm.1 rd.2 o)
+        ∙ sym (if_is k km r wired tt (N.w j) N.fresh (N.w x) (N.w y) (N.G j) fm.2 ∙ if_used_true _ _ o ∙ ap (λ v. branch v (held r (N.w x)) (held r (N.w y))) (fresh_wire f k N main normal m km rp pm with s solved r wired exact))
       where
         chosen : (b : Bool) (x y u v : Option Value) → x ≡ u → y ≡ v → (if b then x else y) ≡ branch (Some (B b)) u v
         chosen true x y u v p q = p
@@ -364,7 +158,7 @@ module _ (f : FlatForm) (k : KernelForm) (N : Wiring) (main : IsMain f) (normal 
         given_is (if is_fresh m s 0 then None else value_in m.before x)
         ∙ ap (λ b. if b then None else value_in m.before x) (fresh_is f main m s solved with.instant)
         ∙ by (m.live 0) refl
-        ∙ sym (memory_is (N.w j) fm.1.memory fm.1.wire ∙ with.memories fm.1.memory None fm.1.next fm.1.is)
+        ∙ sym (memory_is f k N main normal m km rp pm with s solved r wired exact (N.w j) fm.1.memory fm.1.wire ∙ with.memories fm.1.memory None fm.1.next fm.1.is)
       where
         by : (b : Bool) → m.live 0 ≡ b → (if not b then None else value_in m.before x) ≡ (if b then held rp fm.1.next else None)
         by true e =
@@ -372,21 +166,21 @@ module _ (f : FlatForm) (k : KernelForm) (N : Wiring) (main : IsMain f) (normal 
             used_same (m.before (AtUsed x)) (is_open (held rp) (N.G x)) (m.before (AtValue x)) (held rp (N.w x)) (q.0.used x fm.0) (λ w. q.0.values x fm.0 w)
             ∙ sym (guarded_is k pm rp q.1 tt (N.w x) (N.G x) fm.1.next fm.1.holds)
         by false e = refl
-    form_is j occ at (Result x) q fm rd o used lasts = given_is (s (AtValue x)) ∙ part_is j x fm.0 rd o ∙ ap (λ n. held r n) (sym fm.1)
+    form_is j occ at (Result x) q fm rd o used lasts = given_is (s (AtValue x)) ∙ part_is f k N main normal m km rp pm with s solved r wired exact P Q ih j x fm.0 rd o ∙ ap (λ n. held r n) (sym fm.1)
     form_is j occ at (Up site) q fm rd o used lasts =
         ap (λ b. Some (B (is_at_step m.mode && (among site m.fired && not b)))) (fresh_is f main m s solved with.instant)
         ∙ ap (λ b. Some (B (is_at_step m.mode && b))) (unfresh (m.live 0) (among site m.fired) (λ e. ap (λ l. among site l) (with.none_first e)))
-        ∙ sym (wire_is k km r wired instant_too (N.w j) (Event site) None fm ∙ ap₂ (λ b l. Some (B (b && among site l))) (ap (λ x. at_step x) with.mode ∙ mode_step m.mode) with.fired)
+        ∙ sym (wire_is k km r wired tt (N.w j) (Event site) None fm ∙ ap₂ (λ b l. Some (B (b && among site l))) (ap (λ x. at_step x) with.mode ∙ mode_step m.mode) with.fired)
       where
         unfresh : (b c : Bool) → (b ≡ false → c ≡ false) → (c && not (not b)) ≡ c
         unfresh true true e = refl
         unfresh true false e = refl
         unfresh false true e = let z = e refl in absurd cc
         unfresh false false e = refl
-    form_is j occ at AtSteps q fm rd o used lasts = sym (ap (λ n. held r n) fm ∙ step_is)
+    form_is j occ at AtSteps q fm rd o used lasts = sym (ap (λ n. held r n) fm ∙ step_is f k N main normal m km rp pm with s solved r wired exact)
     form_is j occ at (Fired ks) q fm rd o used lasts =
         let up = ups_are j ks fm.0 fm.1 rd o in
-        by m.mode refl up.0 up.2 up.3 ∙ sym (any_is k km r wired instant_too (map N.w ks) up.0 (N.w j) fm.2 up.1)
+        by m.mode refl up.0 up.2 up.3 ∙ sym (any_is k km r wired tt (map N.w ks) up.0 (N.w j) fm.2 up.1)
       where
         by : (mode : Mode) → m.mode ≡ mode → (bs : List Bool) → any_holds (gathered s ks) ≡ Gives (B (some_of bs)) → (is_at_step m.mode ≡ false → some_of bs ≡ false) → answered (fired_answer mode s ks) ≡ Some (B (some_of bs))
         by AtStep e bs p q = ap (λ a. answered a) p
@@ -403,16 +197,16 @@ module _ (f : FlatForm) (k : KernelForm) (N : Wiring) (main : IsMain f) (normal 
 
     taken_is : (es : List ℕ) (n rest h : ℕ) → IsTaken f k N es n rest h → AreHeld es → (holds (held r rest) && is_number n (decide s es)) ≡ holds (held r h)
     taken_is _ _ _ _ (Here e es rest h under) are =
-        ap (λ b. holds (held r rest) && b) (first_number (s (AtValue e)) (decide s es) ∙ ap (λ v. holds v) are.0) ∙ sym (under_is k km r wired instant_too (Some rest) (N.w e) (Some h) under)
+        ap (λ b. holds (held r rest) && b) (first_number (s (AtValue e)) (decide s es) ∙ ap (λ v. holds v) are.0) ∙ sym (under_is k km r wired tt (Some rest) (N.w e) (Some h) under)
     taken_is _ _ _ _ (Later e es n rest but h is more) are =
         ap (λ b. holds (held r rest) && b) (next_number n (s (AtValue e)) (decide s es) ∙ ap (λ v. fails v && is_number n (decide s es)) are.0)
         ∙ regroup (holds (held r rest)) (fails (held r (N.w e))) (is_number n (decide s es))
-        ∙ ap (λ b. b && is_number n (decide s es)) (sym (but_is k km r wired instant_too (Some rest) (N.w e) (Some but) is))
+        ∙ ap (λ b. b && is_number n (decide s es)) (sym (but_is k km r wired tt (Some rest) (N.w e) (Some but) is))
         ∙ taken_is es n but h more are.1
     taken_is _ _ _ _ (Never e es n rest h lit off) are =
-        ap (λ v. holds (held r rest) && is_number (suc n) (decide_by v (decide s es))) (are.0 ∙ lit_is k km r wired instant_too (N.w e) (B true) lit)
+        ap (λ v. holds (held r rest) && is_number (suc n) (decide_by v (decide s es))) (are.0 ∙ lit_is k km r wired tt (N.w e) (B true) lit)
         ∙ ap (λ b. holds (held r rest) && b) (eqb-zero-suc n)
-        ∙ never (holds (held r rest)) ∙ sym (ap (λ v. holds v) (lit_is k km r wired instant_too h (B false) off))
+        ∙ never (holds (held r rest)) ∙ sym (ap (λ v. holds v) (lit_is k km r wired tt h (B false) off))
 
     -- whether an occurrence is evaluated
     takes_true : (x : Option Value) → takes true x ≡ holds x
@@ -421,32 +215,32 @@ module _ (f : FlatForm) (k : KernelForm) (N : Wiring) (main : IsMain f) (normal 
     guard_is : (of : Use) (g : Option ℕ) → IsGuardFor f k N of g → ReadsUse P Q of → asks m s of ≡ is_open (held r) g
     guard_is (PartOf whole) g is rd = ih (AtUsed whole) rd is.0 ∙ ap (λ x. is_open (held r) x) (sym is.1)
     guard_is (BranchOf whole c true) g is rd =
-        and_same (s (AtUsed whole)) (is_open (held r) (N.G whole)) (holds (s (AtValue c))) (holds (held r (N.w c))) (ih (AtUsed whole) rd.0 is.0.there) (λ o. ap (λ v. holds v) (part_is whole c is.0.test rd.1 o))
-        ∙ sym (under_is k km r wired instant_too (N.G whole) (N.w c) g is.1)
+        and_same (s (AtUsed whole)) (is_open (held r) (N.G whole)) (holds (s (AtValue c))) (holds (held r (N.w c))) (ih (AtUsed whole) rd.0 is.0.there) (λ o. ap (λ v. holds v) (part_is f k N main normal m km rp pm with s solved r wired exact P Q ih whole c is.0.test rd.1 o))
+        ∙ sym (under_is k km r wired tt (N.G whole) (N.w c) g is.1)
     guard_is (BranchOf whole c false) g is rd =
-        and_same (s (AtUsed whole)) (is_open (held r) (N.G whole)) (fails (s (AtValue c))) (fails (held r (N.w c))) (ih (AtUsed whole) rd.0 is.0.there) (λ o. ap (λ v. fails v) (part_is whole c is.0.test rd.1 o))
-        ∙ sym (but_is k km r wired instant_too (N.G whole) (N.w c) g is.1)
-    guard_is (DefinerOf call) g is rd = called_is call is.0 rd ∙ ap (λ x. is_open (held r) x) (sym is.1)
-    guard_is (SlopeOf call) g is rd = called_is call is.0 rd ∙ ap (λ x. is_open (held r) x) (sym is.1)
-    guard_is (EventOf call) g is rd = called_is call is.0 rd ∙ ap (λ x. is_open (held r) x) (sym is.1)
+        and_same (s (AtUsed whole)) (is_open (held r) (N.G whole)) (fails (s (AtValue c))) (fails (held r (N.w c))) (ih (AtUsed whole) rd.0 is.0.there) (λ o. ap (λ v. fails v) (part_is f k N main normal m km rp pm with s solved r wired exact P Q ih whole c is.0.test rd.1 o))
+        ∙ sym (but_is k km r wired tt (N.G whole) (N.w c) g is.1)
+    guard_is (DefinerOf call) g is rd = called_is f k N main normal m km rp pm with s solved r wired exact P Q ih call is.0 rd ∙ ap (λ x. is_open (held r) x) (sym is.1)
+    guard_is (SlopeOf call) g is rd = called_is f k N main normal m km rp pm with s solved r wired exact P Q ih call is.0 rd ∙ ap (λ x. is_open (held r) x) (sym is.1)
+    guard_is (EventOf call) g is rd = called_is f k N main normal m km rp pm with s solved r wired exact P Q ih call is.0 rd ∙ ap (λ x. is_open (held r) x) (sym is.1)
     guard_is (StartOf call b) g is rd =
         ap (λ x. is_called s call && is_fresh m s x) is.0
-        ∙ and_same (is_called s call) (is_open (held r) (call_guard N call)) (is_fresh m s 0) (holds (held r N.fresh)) (called_is call is.1 rd.0) (λ o. fresh_is f main m s solved with.instant ∙ sym (ap (λ v. holds v) fresh_wire))
-        ∙ sym (under_is k km r wired instant_too (call_guard N call) N.fresh g is.2)
+        ∙ and_same (is_called s call) (is_open (held r) (call_guard N call)) (is_fresh m s 0) (holds (held r N.fresh)) (called_is f k N main normal m km rp pm with s solved r wired exact P Q ih call is.1 rd.0) (λ o. fresh_is f main m s solved with.instant ∙ sym (ap (λ v. holds v) (fresh_wire f k N main normal m km rp pm with s solved r wired exact)))
+        ∙ sym (under_is k km r wired tt (call_guard N call) N.fresh g is.2)
     guard_is (ResetOf call events arm) g is rd =
-        and_same (is_called s call) (is_open (held r) (call_guard N call)) (is_at_step m.mode && is_number arm (decide s events)) (holds (held r is.2.0)) (called_is call is.0 rd.0)
-        (λ o. ap (λ v. holds v && is_number arm (decide s events)) (sym step_is) ∙ taken_is events arm N.step is.2.0 is.2.1 (events_are call events is.1 rd.1 o))
-        ∙ sym (under_is k km r wired instant_too (call_guard N call) is.2.0 g is.2.2)
+        and_same (is_called s call) (is_open (held r) (call_guard N call)) (is_at_step m.mode && is_number arm (decide s events)) (holds (held r is.2.0)) (called_is f k N main normal m km rp pm with s solved r wired exact P Q ih call is.0 rd.0)
+        (λ o. ap (λ v. holds v && is_number arm (decide s events)) (sym (step_is f k N main normal m km rp pm with s solved r wired exact)) ∙ taken_is events arm N.step is.2.0 is.2.1 (events_are call events is.1 rd.1 o))
+        ∙ sym (under_is k km r wired tt (call_guard N call) is.2.0 g is.2.2)
     guard_is TestOf g is rd = absurd is
     guard_is ArgumentOf g is rd = ap (λ x. is_open (held r) x) (sym is)
     guard_is AgainOf g is rd = ap (λ x. is_open (held r) x) (sym is)
 
     side_is : (whole c : ℕ) → IsBranch f k N whole c → P (AtUsed whole) × P (AtValue c) → (side : Bool) → asks m s (BranchOf whole c side) ≡ (is_open (held r) (N.G whole) && takes side (held r (N.w c)))
     side_is whole c branch rd side =
-        and_same (s (AtUsed whole)) (is_open (held r) (N.G whole)) (takes side (s (AtValue c))) (takes side (held r (N.w c))) (ih (AtUsed whole) rd.0 branch.there) (λ o. ap (λ v. takes side v) (part_is whole c branch.test rd.1 o))
+        and_same (s (AtUsed whole)) (is_open (held r) (N.G whole)) (takes side (s (AtValue c))) (takes side (held r (N.w c))) (ih (AtUsed whole) rd.0 branch.there) (λ o. ap (λ v. takes side v) (part_is f k N main normal m km rp pm with s solved r wired exact P Q ih whole c branch.test rd.1 o))
 
     asked_is : (call g : Option ℕ) (uses : List Use) → IsGuardBy f k N call g uses → ReadsAsked P Q call uses → is_asked m s call uses ≡ is_open (held r) g
-    asked_is call g _ (Unused there e) rd = called_is call there rd ∙ ap (λ x. is_open (held r) x) (sym e)
+    asked_is call g _ (Unused there e) rd = called_is f k N main normal m km rp pm with s solved r wired exact P Q ih call there rd ∙ ap (λ x. is_open (held r) x) (sym e)
     asked_is call g _ (Once of is) rd = or_false (asks m s of) ∙ guard_is of g is rd.0
       where
         or_false : (b : Bool) → (b || false) ≡ b
@@ -460,7 +254,7 @@ module _ (f : FlatForm) (k : KernelForm) (N : Wiring) (main : IsMain f) (normal 
     asked_is call g _ (OfBranches whole c branch either) rd =
         ap₂ (λ a b. a || (b || false)) (side_is whole c branch rd.0 true) (side_is whole c branch rd.0 false)
         ∙ both (is_open (held r) (N.G whole)) (holds (held r (N.w c))) (fails (held r (N.w c)))
-        ∙ sym (either_is k km r wired instant_too (N.G whole) (N.w c) g either)
+        ∙ sym (either_is k km r wired tt (N.G whole) (N.w c) g either)
       where
         both : (a b c : Bool) → (a && b || ((a && c) || false)) ≡ (a && (b || c))
         both true b c = ap (λ x. b || x) (or_nothing c)
@@ -486,7 +280,7 @@ module _ (f : FlatForm) (k : KernelForm) (N : Wiring) (main : IsMain f) (normal 
   LastsAreCalled = (j p : ℕ) (occ : Occ) (place : PlaceInfo) → slice_get f.occs j ≡ Some occ → occ.form ≡ Last p → slice_get f.places p ≡ Some place → is_open (held r) (N.G j) ≡ true → is_open (held r) (call_guard N place.call) ≡ true
 
   module _ (ranks : HasGuardRanks f) (lasts : m.live 0 ≡ false → LastsAreCalled) where
-    claim_at : (P Q : Entries) → ((b : Node) → P b → Claim b) → (a : Node) → Reads f P Q a → ((j : ℕ) → a ≡ AtValue j → P (AtUsed j)) → Claim a
+    claim_at : (P Q : Entries) → ((b : Node) → P b → Claim f k N main normal m km rp pm with s solved r wired exact b) → (a : Node) → Reads f P Q a → ((j : ℕ) → a ≡ AtValue j → P (AtUsed j)) → Claim f k N main normal m km rp pm with s solved r wired exact a
     claim_at P Q ih (AtControl b) rd below = tt
     claim_at P Q ih (AtReset b) rd below = tt
     claim_at P Q ih (AtLater b) rd below = tt
@@ -494,11 +288,11 @@ module _ (f : FlatForm) (k : KernelForm) (N : Wiring) (main : IsMain f) (normal 
     claim_at P Q ih (AtRunning b) rd below = tt
     claim_at P Q ih (AtStrong b) rd below = tt
     claim_at P Q ih (AtWeak b) rd below = tt
-    claim_at P Q ih (AtPlace p) rd below = λ there. place_is P Q ih p rd there
+    claim_at P Q ih (AtPlace p) rd below = λ there. place_is f k N main normal m km rp pm with s solved r wired exact P Q ih p rd there
     claim_at P Q ih (AtUsed j) rd below = λ there. used_is P Q ih j rd there
     claim_at P Q ih (AtValue j) rd below = λ there o. value_is P Q ih j rd (below j refl) there o (λ p place occ at q w first. lasts first j p occ place at q w o)
 
-    claim_below : (n : ℕ) (a : Node) → ranks.entries.rank a < n → Claim a
+    claim_below : (n : ℕ) (a : Node) → ranks.entries.rank a < n → Claim f k N main normal m km rp pm with s solved r wired exact a
     claim_below zero a low = absurd (omega arith)
     claim_below (suc n) a low = claim_at (λ b. ranks.entries.rank b < ranks.entries.rank a) (λ b. ⊤) (λ b lower. claim_below n b (omega arith)) a (ranks.entries.lower a) (λ j e. subst (λ b. ranks.entries.rank (AtUsed j) < ranks.entries.rank b) (sym e) (ranks.guards j))
 

@@ -1,5 +1,6 @@
 pub mod Wires
 pub mod Values
+pub mod InstantPlaces
 pub mod Instants
 pub mod FirstFaults
 pub mod Faults
