@@ -1,2 +1,3 @@
 -- Worked normal forms.
 pub mod SawTooth
+pub mod Slopes

@@ -1,4 +1,4 @@
-use Rattle.std.specs.Prelude.{◌⊎◌, ◌≡◌, ℕ, ◌<◌, zero, suc, ◌+◌, true, false, length, List, [], ◌∷◌, slice_get, pos, Option, Some, None}
+use Rattle.std.specs.Prelude.{◌⊎◌, ◌≡◌, ℕ, ◌<◌, true, false, List, [], ◌∷◌, slice_get, pos, Option, Some, None}
 use Rattle.std.proofs.Common.{refl, sym, ap, subst, arith, inl, inr, ⊎_elim}
 use Rattle.zl_value.specs.Fraction.{whole}
 use Rattle.zl_value.specs.declared.value.Value.{Value}
@@ -18,10 +18,9 @@ use Rattle.zl_meaning.specs.declared.place.Definer.TheVariants.{Der, Start}
 use Rattle.zl_kernel.specs.FlowWires.{is_of_flows}
 use Rattle.zl_kernel.specs.Worked.SawTooth.{kernel}
 use Rattle.zl_kernel.specs.declared.wire.Wire.{Wire}
-use Rattle.zl_kernel.specs.declared.wire.Def.{Def}
 use Rattle.zl_kernel.specs.declared.wire.Def.TheVariants.{Op as OpWire}
 use Rattle.zl_kernel.specs.declared.memory.KMem.{KMem}
-use Rattle.zl_normal.specs.KernelParts.{IsWire, IsMemory}
+use Rattle.zl_normal.specs.KernelParts.{IsMemory}
 use Rattle.zl_normal.specs.Guards.{Chained, Copied, Turned, OneOf, NoneOf}
 use Rattle.zl_normal.specs.FormWires.{IsFormWire, Made, IsCall}
 use Rattle.zl_normal.specs.UseGuards.{IsGuardBy, Unused, Once, Here}
@@ -30,44 +29,20 @@ use Rattle.zl_normal.specs.SiteWires.{IsSiteWire}
 use Rattle.zl_normal.specs.SlopeWires.{Moves, IsSlope, LeftOfDifference, IsPlaceSlope, IsOwnSlope, Done, StillMemory, Moving}
 use Rattle.zl_normal.specs.Normal.{IsOwn, IsNormalAtInstants, IsNormalInFlows}
 use Rattle.zl_normal.specs.Worked.SawTooth.{wiring, SawToothIsNormal}
+use Rattle.zl_normal.proofs.WorkedParts.{some_is, each, wired, remembered, of_op, within}
 use Rattle.zl_normal.proofs.worked.saw_tooth_is_normal.Goals as goal
-
-some_is : {X : Type 0} (a b : X) → Some a ≡ Some b → a ≡ b
-some_is {X = X} a b e = ap (λ x. or_else x) e
-  where
-    or_else : Option X → X
-    or_else None = a
-    or_else (Some y) = y
-
-abbrev All : {A : Type 0} → (ℕ → A → Type 0) → ℕ → List A → Type 0
-All Q base [] = Unit {0}
-All Q base (x ∷ xs) = Q base x × All Q (suc base) xs
-
-each_from : {A : Type 0} (Q : ℕ → A → Type 0) (base : ℕ) (xs : List A) → All Q base xs → (j : ℕ) (x : A) → slice_get xs j ≡ Some x → Q (base + j) x
-each_from Q base [] all j x e = absurd cc
-each_from Q base (y ∷ xs) all zero x e = subst (λ z. Q (base + 0) z) (some_is y x e) (let z : base ≡ base + 0 = omega arith in subst (λ n. Q n y) z all.0)
-each_from Q base (y ∷ xs) all (suc j) x e = let z : suc base + j ≡ base + suc j = omega arith in subst (λ n. Q n x) z (each_from Q (suc base) xs all.1 j x e)
-
-each : {A : Type 0} (Q : ℕ → A → Type 0) (xs : List A) → All Q 0 xs → (j : ℕ) (x : A) → slice_get xs j ≡ Some x → Q j x
-each Q xs all j x e = let z : 0 + j ≡ j = omega arith in subst (λ n. Q n x) z (each_from Q 0 xs all j x e)
-
-wired : (n : ℕ) (wire : Wire) → slice_get kernel.wires n ≡ Some wire → is_of_flows kernel n ≡ false → IsWire kernel n wire.def wire.guard
-wired n wire is kept = record { wire = wire; is = is; def_is = refl; guard_is = refl; kept = kept }
-
-remembered : (n : ℕ) (mem : KMem) → slice_get kernel.mems n ≡ Some mem → IsMemory kernel n mem.start mem.next mem.slope
-remembered n mem is = record { mem = mem; is = is; start_is = refl; next_is = refl; slope_is = refl }
 
 forms : (j : ℕ) (occ : Occ) → slice_get form.occs j ≡ Some occ → IsFormWire form kernel wiring j occ occ.form
 unfolding is_of_flows wired
-forms = each (λ j occ. IsFormWire form kernel wiring j occ occ.form) form.occs (((_, refl), refl), (wired 3 _ refl refl, (wired 4 _ refl refl, (wired 5 _ refl refl, (((_, refl), refl), (((record { there = (_, refl); guard = refl }, (record { there = (_, refl); guard = refl }, tt)), Made (wired 12 _ refl refl) refl refl), (wired 3 _ refl refl, (wired 4 _ refl refl, (((record { there = (_, refl); guard = refl }, tt), ((0, _, refl, refl), tt), OneOf 5), tt)))))))))
+forms = each (λ j occ. IsFormWire form kernel wiring j occ occ.form) form.occs (((_, refl), refl), (wired kernel 3 _ refl refl, (wired kernel 4 _ refl refl, (wired kernel 5 _ refl refl, (((_, refl), refl), (((record { there = (_, refl); guard = refl }, (record { there = (_, refl); guard = refl }, tt)), Made (wired kernel 12 _ refl refl) refl refl), (wired kernel 3 _ refl refl, (wired kernel 4 _ refl refl, (((record { there = (_, refl); guard = refl }, tt), ((0, _, refl, refl), tt), OneOf 5), tt)))))))))
 
 guards : (j : ℕ) (occ : Occ) → slice_get form.occs j ≡ Some occ → IsGuardBy form kernel wiring occ.call (wiring.G j) (uses_of form j)
 unfolding is_of_flows
-guards = each (λ j occ. IsGuardBy form kernel wiring occ.call (wiring.G j) (uses_of form j)) form.occs (Unused tt refl, (Once (SlopeOf None) (tt, refl), (Once (StartOf None 0) (refl, tt, Chained tt), (Once (PartOf 8) ((_, refl), refl), (Once (PartOf 5) ((_, refl), refl), (Once ArgumentOf refl, (Once (PartOf 5) ((_, refl), refl), (Once (ResetOf None (8 ∷ []) 0) (tt, (record { there = (_, refl); guard = refl }, tt), (6, Here 8 [] 0 6 (Copied 6 (wired 6 _ refl refl)), Chained tt)), (Once (EventOf None) (tt, refl), tt)))))))))
+guards = each (λ j occ. IsGuardBy form kernel wiring occ.call (wiring.G j) (uses_of form j)) form.occs (Unused tt refl, (Once (SlopeOf None) (tt, refl), (Once (StartOf None 0) (refl, tt, Chained tt), (Once (PartOf 8) ((_, refl), refl), (Once (PartOf 5) ((_, refl), refl), (Once ArgumentOf refl, (Once (PartOf 5) ((_, refl), refl), (Once (ResetOf None (8 ∷ []) 0) (tt, (record { there = (_, refl); guard = refl }, tt), (6, Here 8 [] 0 6 (Copied 6 (wired kernel 6 _ refl refl)), Chained tt)), (Once (EventOf None) (tt, refl), tt)))))))))
 
 last_x : IsLast form kernel wiring 0 None (Some 2) 9
 unfolding is_of_flows
-last_x = LitStart 2 9 2 _ (F (whole (pos 0))) refl refl (wired 9 _ refl refl) (remembered 2 _ refl)
+last_x = LitStart 2 9 2 _ (F (whole (pos 0))) refl refl (wired kernel 9 _ refl refl) (remembered kernel 2 _ refl)
 
 places : (p : ℕ) (place : PlaceInfo) → slice_get form.places p ≡ Some place → IsCall form place.call × IsDefined form kernel wiring p place (definer_of place.definers)
 unfolding is_of_flows
@@ -80,10 +55,10 @@ places = each (λ p place. IsCall form place.call × IsDefined form kernel wirin
       memory = 1;
       slope = 13;
       last = last_x;
-      reset = Tested _ [] 0 6 7 10 9 (record { there = (_, refl); guard = refl }) (Copied 6 (wired 6 _ refl refl)) (Turned 7 (wired 7 _ refl refl)) (_, refl) (Chained tt) (Stays 7) (wired 10 _ refl refl);
-      wire = wired 11 _ refl refl;
-      kept = wired 8 _ refl refl;
-      moves = remembered 1 _ refl;
+      reset = Tested _ [] 0 6 7 10 9 (record { there = (_, refl); guard = refl }) (Copied 6 (wired kernel 6 _ refl refl)) (Turned 7 (wired kernel 7 _ refl refl)) (_, refl) (Chained tt) (Stays 7) (wired kernel 10 _ refl refl);
+      wire = wired kernel 11 _ refl refl;
+      kept = wired kernel 8 _ refl refl;
+      moves = remembered kernel 1 _ refl;
     },
   ),
   tt,
@@ -91,13 +66,6 @@ places = each (λ p place. IsCall form place.call × IsDefined form kernel wirin
 
 faults : (n : ℕ) (wire : Wire) (op : Op) (ns : List ℕ) → slice_get kernel.wires n ≡ Some wire → is_of_flows kernel n ≡ false → wire.def ≡ OpWire op ns → ((op ≡ Not) ⊎ (op ≡ Or)) ⊎ IsOwn form wiring n wire op
 faults n wire op ns is kept e = each (λ n wire. (op : Op) (ns : List ℕ) → wire.def ≡ OpWire op ns → ((op ≡ Not) ⊎ (op ≡ Or)) ⊎ IsOwn form wiring n wire op) kernel.wires ((λ op ns e. absurd cc), ((λ op ns e. absurd cc), ((λ op ns e. absurd cc), ((λ op ns e. absurd cc), ((λ op ns e. absurd cc), ((λ op ns e. absurd cc), ((λ op ns e. absurd cc), ((λ op ns e. inl (inl (sym (of_op e)))), ((λ op ns e. absurd cc), ((λ op ns e. absurd cc), ((λ op ns e. absurd cc), ((λ op ns e. absurd cc), ((λ op ns e. inr (record { occ = _; ks = 4 ∷ 6 ∷ []; is = refl; form = ap (λ o. Apply o (4 ∷ 6 ∷ [])) (of_op e); same = refl })), ((λ op ns e. absurd cc), tt)))))))))))))) n wire is op ns e
-  where
-    of_op : {a b : Op} {x y : List ℕ} → OpWire a x ≡ OpWire b y → a ≡ b
-    of_op {a} {b} e = ap (λ d. op_in d) e
-      where
-        op_in : Def → Op
-        op_in (OpWire o ns) = o
-        op_in d = a
 
 lasts : (j : ℕ) (occ : Occ) → slice_get form.occs j ≡ Some occ → (p : ℕ) → occ.form ≡ Last p → (place : PlaceInfo) × (slice_get form.places p ≡ Some place) × IsLast form kernel wiring p place.call (start_of place.definers) (wiring.L p)
 lasts = each (λ j occ. (p : ℕ) → occ.form ≡ Last p → (place : PlaceInfo) × (slice_get form.places p ≡ Some place) × IsLast form kernel wiring p place.call (start_of place.definers) (wiring.L p)) form.occs ((λ p e. absurd cc), ((λ p e. absurd cc), ((λ p e. absurd cc), ((λ p e. absurd cc), ((λ p e. absurd cc), ((λ p e. absurd cc), ((λ p e. absurd cc), ((λ p e. absurd cc), ((λ p e. absurd cc), tt)))))))))
@@ -107,7 +75,7 @@ variable = place 0 None Float 0 (at 1 37) (Der 0 1 (reset_arm 8 7 ∷ []) ∷ St
 
 ders : (p : ℕ) (place : PlaceInfo) → slice_get form.places p ≡ Some place → (b a n slope : ℕ) (arms : List DerArm) (start : Option Value) → definer_of place.definers ≡ Some (Der b a arms) → IsMemory kernel n start 11 (Some slope) → (slope ≡ 13) × IsDer form kernel wiring place a slope
 ders = each (λ p place. (b a n slope : ℕ) (arms : List DerArm) (start : Option Value) → definer_of place.definers ≡ Some (Der b a arms) → IsMemory kernel n start 11 (Some slope) → (slope ≡ 13) × IsDer form kernel wiring place a slope) form.places
-    ((λ b a n slope arms start definer mem. (sym (which n mem.mem mem.is slope mem.slope_is), subst (λ x. IsDer form kernel wiring variable a x) (which n mem.mem mem.is slope mem.slope_is) (subst (λ x. IsDer form kernel wiring variable x 13) (named definer) (record { wire = _; is = refl; m = 3; def = refl; free = refl; mem = remembered 3 _ refl; there = (_, refl); guard = refl })))), tt)
+    ((λ b a n slope arms start definer mem. (sym (which n mem.mem mem.is slope mem.slope_is), subst (λ x. IsDer form kernel wiring variable a x) (which n mem.mem mem.is slope mem.slope_is) (subst (λ x. IsDer form kernel wiring variable x 13) (named definer) (record { wire = _; is = refl; m = 3; def = refl; free = refl; mem = remembered kernel 3 _ refl; there = (_, refl); guard = refl })))), tt)
   where
     named : {b a c e : ℕ} {x y : List DerArm} → Some (Der b a x) ≡ Some (Der c e y) → a ≡ e
     named {a = a} q = ap (λ o. slope_in o) q
@@ -122,9 +90,9 @@ ders = each (λ p place. (b a n slope : ℕ) (arms : List DerArm) (start : Optio
 instants : IsNormalAtInstants form kernel wiring
 unfolding is_of_flows
 instants = record {
-  step = wired 0 _ refl refl;
-  fresh = wired 1 _ refl refl;
-  first = (2, wired 2 _ refl refl, remembered 0 _ refl);
+  step = wired kernel 0 _ refl refl;
+  fresh = wired kernel 1 _ refl refl;
+  first = (2, wired kernel 2 _ refl refl, remembered kernel 0 _ refl);
   forms = forms;
   guards = guards;
   places = places;
@@ -132,17 +100,12 @@ instants = record {
   faults = faults;
   site_count = refl;
   sites = each (λ n site. IsSiteWire form kernel wiring n site) form.sites (record { wires = _; is = refl; occ = _; argument = refl; guard = refl; value = refl; fresh = refl; slope = refl }, tt);
-  again = (tt, NoneOf 2 (wired 2 _ refl refl));
+  again = (tt, NoneOf 2 (wired kernel 2 _ refl refl));
 }
 
 -- the slopes of the occurrences that have a grade; nothing was appended
 few : (j : ℕ) (occ : Occ) → slice_get form.occs j ≡ Some occ → j < 9
 few j occ is = within form.occs j occ is
-  where
-    within : {A : Type 0} (xs : List A) (j : ℕ) (x : A) → slice_get xs j ≡ Some x → j < length xs
-    within [] j x e = absurd cc
-    within (y ∷ xs) zero x e = omega arith
-    within (y ∷ xs) (suc j) x e = let z = within xs j x e in omega (arith, z)
 
 slopes : (j : ℕ) (occ : Occ) → slice_get form.occs j ≡ Some occ → Moves form grades kernel wiring j → IsSlope form grades kernel wiring j occ
 slopes = each (λ j occ. Moves form grades kernel wiring j → IsSlope form grades kernel wiring j occ) form.occs
