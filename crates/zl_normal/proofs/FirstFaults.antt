@@ -47,7 +47,7 @@ module _ (F : ℕ → Occ → Option Fault) where
     has : F (base + at) occ ≡ Some fault
     before : (i : ℕ) (o : Occ) → slice_get occs i ≡ Some o → i < at → F (base + i) o ≡ None
 
-  first_none : (base : ℕ) (occs : List Occ) → first_from base occs ≡ None → (i : ℕ) (o : Occ) → slice_get occs i ≡ Some o → F (base + i) o ≡ None
+  pub first_none : (base : ℕ) (occs : List Occ) → first_from base occs ≡ None → (i : ℕ) (o : Occ) → slice_get occs i ≡ Some o → F (base + i) o ≡ None
   first_none base [] e i o is = absurd cc
   first_none base (occ ∷ occs) e zero o is =
       ap₂ (λ n x. F n x) (start base) (sym (some_is occ o is)) ∙ by (F base occ) (first_from (suc base) occs) e

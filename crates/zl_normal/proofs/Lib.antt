@@ -25,4 +25,5 @@ pub mod AllSlopes
 pub mod NarrowSlopes
 pub mod WideSlopes
 pub mod SlopeFaults
+pub mod FineSlopes
 pub mod FlowLaw

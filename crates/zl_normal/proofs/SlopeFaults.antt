@@ -44,7 +44,7 @@ use Rattle.zl_normal.specs.SlopeWires.{IsTested, IsSlopeMade, Negated, Sum, Diff
 use Rattle.zl_normal.specs.Normal.{IsOwn, IsNormalAtInstants, IsNormalInFlows}
 use Rattle.zl_normal.specs.MainBlock.{IsMain}
 use Rattle.zl_normal.proofs.Follows.{some_is}
-use Rattle.zl_normal.proofs.FirstFaults.{clash, at_ord, ranked_is, first_from, WireOf, TurnOf, same_first}
+use Rattle.zl_normal.proofs.FirstFaults.{zero_more, first_none, clash, at_ord, ranked_is, first_from, WireOf, TurnOf, same_first}
 use Rattle.zl_normal.proofs.Values.{applied_same}
 use Rattle.zl_normal.proofs.Faults.{operators, not_right, or_right, gate_fault}
 use Rattle.zl_normal.proofs.FlowValues.{InFlowOf, some_f, V}
@@ -58,7 +58,7 @@ use Rattle.zl_normal.proofs.WideSlopes.{wide_of_two, IsWide, wide_is, is_wide, f
 
 module _ (f : FlatForm) (g : Grading) (main : IsMain f) (formed : IsWellFormed f) (c : InFlowOf f g) (single : IsSingle f) (ranks : HasGuardRanks f) (k : KernelForm) (N : Wiring) (moving : IsNormalInFlows f g.occs k N) (d : BesideFlow f g main c k N) where
   -- the fault of an occurrence's slope
-  abbrev slope_at : ℕ → Occ → Option Fault
+  abbrev pub slope_at : ℕ → Occ → Option Fault
   slope_at j occ = first_wide (slope_test f g.occs (c.at nought) (c.at unit) c.fine j occ)
 
   first_slope : (base : ℕ) (occs : List Occ) → first_from slope_at base occs ≡ first_wide (slope_tests f g.occs (c.at nought) (c.at unit) c.fine base occs)
@@ -70,7 +70,7 @@ module _ (f : FlatForm) (g : Grading) (main : IsMain f) (formed : IsWellFormed f
   all_sloped (j ∷ js) = (slopes f g main formed c single ranks k N moving d j, all_sloped js)
 
   -- an old occurrence of grade 0 or 1 has it among all grades too
-  old_grade : (j : ℕ) → get_or g.occs j 3 ≤ 1 → grade_of c.whole j ≡ get_or g.occs j 3
+  pub old_grade : (j : ℕ) → get_or g.occs j 3 ≤ 1 → grade_of c.whole j ≡ get_or g.occs j 3
   old_grade j l = c.form.old j (inside g.occs j l)
     where
       inside : (l : List ℕ) (n : ℕ) → get_or l n 3 ≤ 1 → n < length l
@@ -312,3 +312,7 @@ module _ (f : FlatForm) (g : Grading) (main : IsMain f) (formed : IsWellFormed f
     -- the fault of the flow is that of its first slope that isn't in the width
     pub same_slope_fault : slope_fault f g.occs (c.at nought) (c.at unit) c.fine ≡ kernel_fault k (flow_moment k d.i) d.y
     same_slope_fault = sym (same_first k (flow_moment k d.i) (held d.y) slope_at f.occs (length f.occs) to_wire from_wire ∙ first_slope 0 f.occs)
+
+    -- where the flow has no fault, no slope has one
+    pub no_slope_fault : slope_fault f g.occs (c.at nought) (c.at unit) c.fine ≡ None → (j : ℕ) (occ : Occ) → slice_get f.occs j ≡ Some occ → slope_at j occ ≡ None
+    no_slope_fault none j occ is = ap (λ n. slope_at n occ) (sym (zero_more j)) ∙ first_none slope_at 0 f.occs (first_slope 0 f.occs ∙ none) j occ is
