@@ -3,3 +3,5 @@ pub mod Grounded
 pub mod Starting
 pub mod Untested
 pub mod Lasts
+pub mod Widths
+pub mod WidthRuns

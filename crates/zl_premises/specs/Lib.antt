@@ -1,3 +1,4 @@
-pub mod Moving
-pub mod Starting
 pub mod Lasts
+pub mod Moving
+pub mod Narrow
+pub mod Starting

@@ -1,6 +1,7 @@
 //! Laws of the definitions. Each is a function without a body, whose contract is the law.
 ghost use Rattle.zl_premises.specs.Lasts.{LastsAreKept};
 ghost use Rattle.zl_premises.specs.Moving.{TableMoves, GradesKeepMoving};
+ghost use Rattle.zl_premises.specs.Narrow.{DerivativesAreNarrow};
 ghost use Rattle.zl_premises.specs.Starting.{GradesStartRight};
 
 /// By the table of grades what moves by a `der` doesn't stand still.
@@ -21,4 +22,9 @@ pub fn grades_start_right()
 /// Where `last` of a place stands in the copy in which the place does, it is evaluated only with the call of that copy.
 pub fn lasts_are_kept()
     ensures { LastsAreKept }
+{}
+
+/// In runs of the main block alone each derivative that is evaluated is a number in the width, if it has a value.
+pub fn derivatives_are_narrow()
+    ensures { DerivativesAreNarrow }
 {}
