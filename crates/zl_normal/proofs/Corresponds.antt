@@ -86,6 +86,17 @@ moved_is (Some (B a)) y d = refl
 moved_is (Some (I a)) y d = refl
 moved_is None y d = refl
 
+-- a flow of the form
+moment_table : (f : FlatForm) → HasGuardRanks f → (g : History Table) (j : Instant Table) (s : Fraction) → (t : Table) × (t ≡ old_turn f (old_flow_moment f g j s) t)
+moment_table f ranks g j s = some_table f (old_flow_moment f g j s) ranks.entries
+
+pub some_course : (f : FlatForm) (grades : List ℕ) → HasGuardRanks f → (g : History Table) (j : Instant Table) → (flow : Course FlowTable) × IsFlow (system_of f grades) g j flow
+some_course f grades ranks g j =
+    let fine = some_fine f ranks.entries (moment_table f ranks g j nought).0 (moment_table f ranks g j unit).0 in (
+      (λ s. record { table = (moment_table f ranks g j s).0; fine = fine.0 }),
+      λ s a b. ap₂ (λ t l. let x : FlowTable = record { table = t; fine = l } in x) (moment_table f ranks g j s).1 fine.1,
+    )
+
 module _ (f : FlatForm) (k : KernelForm) (N : Wiring) where
   -- what stands at the latest instants of the kernel's run and of the form's says the same
   abbrev pub Says : History Registers → History Table → Type 0
@@ -168,17 +179,6 @@ module _ (f : FlatForm) (k : KernelForm) (N : Wiring) where
           apart : true ≡ false → ⊥
           apart q = absurd cc
 
-      -- a flow of the form
-      moment_table : (g : History Table) (j : Instant Table) (s : Fraction) → (t : Table) × (t ≡ old_turn f (old_flow_moment f g j s) t)
-      moment_table g j s = some_table f (old_flow_moment f g j s) ranks.entries
-
-      some_course : (g : History Table) (j : Instant Table) → (flow : Course FlowTable) × IsFlow (system_of f grades) g j flow
-      some_course g j =
-          let fine = some_fine f ranks.entries (moment_table g j nought).0 (moment_table g j unit).0 in (
-            (λ s. record { table = (moment_table g j s).0; fine = fine.0 }),
-            λ s a b. ap₂ (λ t l. let x : FlowTable = record { table = t; fine = l } in x) (moment_table g j s).1 fine.1,
-          )
-
       -- the main block is active in it
       running : (h : History Registers) (g : History Table) (i : Instant Registers) (j : Instant Table) → Follow f k N (i ∷ h) (j ∷ g) → (flow : Course FlowTable) → IsFlow (system_of f grades) g j flow → state_in (flow nought).table (AtControl 0) ≡ Active
       running h g i j e flow solves =
@@ -188,7 +188,7 @@ module _ (f : FlatForm) (k : KernelForm) (N : Wiring) where
       flow_beside : (h : History Registers) (g : History Table) (i : Instant Registers) (j : Instant Table) (y : Course Registers) → Reached (i ∷ h) (j ∷ g) → FlowAfter (system_of_kernel k) script h i y → IsWhole ((system_of_kernel k).flow_fault h i y) ((system_of_kernel k).flow_lacks i y) → FlowBeside (system_of_kernel k) (system_of f grades) script same_sites Says h g i j y
       flow_beside h g i j y reached after whole =
           let e = follows (i ∷ h) (j ∷ g) reached.corresponds in
-          let some = some_course g j in
+          let some = some_course f grades ranks g j in
           let says = flows h g i j y reached after whole some.0 some.1 in
           let solved = after.solves nought (IsReduced-whole (pos 0)) refl in
           record {

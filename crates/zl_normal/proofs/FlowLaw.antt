@@ -1,7 +1,7 @@
 -- A flow of a normal form has the fault of the form's flow, and its sites have the values that they have there.
-use Rattle.std.specs.Prelude.{◌≡◌, ℕ, zero, suc, ◌<◌, pos, Bool, true, false, ◌&&◌, ◌||◌, if◌then◌else◌, is_some, is_none, nat_eq, List, [], ◌∷◌, slice_get, length, Option, Some, None}
+use Rattle.std.specs.Prelude.{◌≡◌, ℕ, zero, suc, ◌<◌, ◌+◌, pos, Bool, true, false, ◌&&◌, ◌||◌, if◌then◌else◌, is_some, is_none, nat_eq, List, [], ◌∷◌, slice_get, length, Option, Some, None}
 use Rattle.std.specs.List.{list_any}
-use Rattle.std.proofs.Common.{refl, sym, ap, ap₂, ◌∙◌, subst}
+use Rattle.std.proofs.Common.{refl, sym, ap, ap₂, ◌∙◌, arith, subst}
 use Rattle.zl_value.specs.Fraction.{Fraction, sub, fits}
 use Rattle.zl_value.specs.Times.{nought, unit}
 use Rattle.zl_value.specs.Stops.{line_for}
@@ -53,7 +53,7 @@ use Rattle.zl_meaning.proofs.GradesKept.TypedRuns.{TypedHistory, prefix_typed, f
 use Rattle.zl_meaning.proofs.GradesKept.UsesSay.{slope-used}
 use Rattle.zl_kernel.specs.KernelForm.{KernelForm}
 use Rattle.zl_kernel.specs.Wires.{Registers, held, is_open, turn, applied as worked}
-use Rattle.zl_kernel.specs.Missing.{is_active, flow_lacks}
+use Rattle.zl_kernel.specs.Missing.{is_active, stands_still, flow_lacks}
 use Rattle.zl_kernel.specs.Memories.{moved as moved_by}
 use Rattle.zl_kernel.specs.System.{system_of_kernel, flow_moment, site_value, site_slope}
 use Rattle.zl_kernel.specs.declared.site.KSite.{KSite}
@@ -75,7 +75,10 @@ use Rattle.zl_normal.proofs.StillUsed.{stays}
 use Rattle.zl_normal.proofs.SlopeOperators.{BesideFlow}
 use Rattle.zl_normal.proofs.SlopeWires.{if_fine}
 use Rattle.zl_normal.proofs.AllSlopes.{slopes}
-use Rattle.zl_normal.proofs.SlopeFaults.{same_slope_fault}
+use Rattle.zl_normal.proofs.SlopeFaults.{same_slope_fault, no_slope_fault}
+use Rattle.zl_normal.proofs.FineSlopes.{fine}
+use Rattle.zl_normal.specs.SlopeWires.{AreMotions, Done, StillMemory, StillPlace, Moving}
+use Rattle.zl_kernel.specs.declared.memory.KMem.{KMem}
 
 -- a flow follows where there is no fault, nothing is missing and no step is demanded
 pub record Flowing (fault : Option Fault) (lacks demanded : Bool) : Type 0 where
@@ -120,6 +123,19 @@ none_of p (y ∷ xs) (suc n) x is e = none_of p xs n x is (second (p y) (list_an
     second : (a b : Bool) → (a || b) ≡ false → b ≡ false
     second true b e = absurd cc
     second false b e = e
+
+pub all_false : {X : Type 0} (p : X → Bool) (xs : List X) → ((n : ℕ) (x : X) → slice_get xs n ≡ Some x → p x ≡ false) → list_any p xs ≡ false
+all_false p [] each = refl
+all_false p (x ∷ xs) each = ap₂ (λ a b. a || b) (each 0 x refl) (all_false p xs (λ n y is. each (suc n) y is))
+
+pub inside : {X : Type 0} (xs : List X) (n : ℕ) (x : X) → slice_get xs n ≡ Some x → n < length xs
+inside [] n x e = absurd cc
+inside (y ∷ xs) zero x e = omega arith
+inside (y ∷ xs) (suc n) x e = let l = inside xs n x e in omega (arith, l)
+
+evaluated : (b : Bool) (o : Option Value) (v : Value) → if_used b o ≡ Some v → (b ≡ true) × (o ≡ Some v)
+evaluated true o v e = (refl, e)
+evaluated false o v e = absurd cc
 
 module _ (f : FlatForm) (k : KernelForm) (N : Wiring) (main : IsMain f) (single : IsSingle f) (normal : IsNormalAtInstants f k N) (gr : Grading) (moving : IsNormalInFlows f gr.occs k N) (ranks : HasGuardRanks f) (formed : IsWellFormed f) (keeps : KeepsGrades f gr) (grades_move : GradesMoving f keeps.whole) (starts : StartsRight f gr.occs) (narrow_derivatives : HasNarrowDerivatives f gr.occs) (script : Script) (suits : IsScriptFor (input_types f) script) (h : History Registers) (g : History Table) (i : Instant Registers) (j : Instant Table) (e : Follow f k N (i ∷ h) (j ∷ g)) (prefix : IsPrefix f gr.occs script (j ∷ g)) (y : Course Registers) (after : FlowAfter (system_of_kernel k) script h i y) (flow : Course FlowTable) (is : IsFlow (system_of f gr.occs) g j flow) where
   follows_flow : Flowing ((system_of_kernel k).fault h i) ((system_of_kernel k).lacks i) (is_demanded (system_of_kernel k) script (i ∷ h))
@@ -239,10 +255,6 @@ module _ (f : FlatForm) (k : KernelForm) (N : Wiring) (main : IsMain f) (single 
       ap₂ (λ a b. moved_by a b s) (sym u.1 ∙ number.is) (wire ∙ fine_one (fine_of f gr main formed c arg) (sub m.b number.number) (sym (ap (λ o. is_none o) wire) ∙ sloped (ap (λ o. is_some o) q)))
       ∙ sym (ap₂ (λ a b. on_line a b s) (sym u.1 ∙ number.is) later)
     where
-      evaluated : (b : Bool) (o : Option Value) (v : Value) → if_used b o ≡ Some v → (b ≡ true) × (o ≡ Some v)
-      evaluated true o v e = (refl, e)
-      evaluated false o v e = absurd cc
-
       fine_one : (b : Bool) (x : Fraction) → is_none (if_fine b x) ≡ false → if_fine b x ≡ Some (F x)
       fine_one true x e = refl
       fine_one false x e = absurd cc
@@ -274,3 +286,62 @@ module _ (f : FlatForm) (k : KernelForm) (N : Wiring) (main : IsMain f) (single 
       if_active : (a b : Bool) → a ≡ true → (a && b) ≡ false → b ≡ false
       if_active true b e q = q
       if_active false b e q = absurd cc
+
+  module _ (none : (system_of_kernel k).flow_fault h i y ≡ None) where
+    -- where the flow has no fault, an active site has a slope
+    slope_held : (n : ℕ) (wires : KSite) → slice_get k.sites n ≡ Some wires → (v : Value) → held i.table wires.value ≡ Some v → is_none (held (y nought) wires.slope) ≡ false
+    unfolding c d
+    slope_held n wires at v value =
+        let site = within f.sites n (subst (λ x. n < x) normal.site_count (inside k.sites n wires at)) in
+        let w = normal.sites n site.0 site.1 in
+        let arg = site.0.arg in
+        let used : IsUse f arg ArgumentOf = AsArgument n site.0 site.1 refl in
+        let typed = (formed.sites n site.0 site.1).argument in
+        let twin : w.wires ≡ wires = same_one w.wires wires (sym w.is ∙ at) in
+        let along : value_along (tables flow) arg nought ≡ Some v =
+        c.keeps.arguments_start arg over used ∙ value_seen f k N main normal gr.occs (state_of j) i.table e.0.says arg (w.occ, w.argument) w.guard ∙ ap (λ x. held i.table x) (sym w.value) ∙ ap (λ (x : KSite). held i.table x.value) twin ∙ value in
+        let u = evaluated (state_in (flow nought).table (AtUsed arg)) (state_in (flow nought).table (AtValue arg)) v along in
+        let number = is_number (state_in (flow nought).table (AtValue arg)) v (subst (λ t. IsOf t (state_in (flow nought).table (AtValue arg))) typed.typed (c.typed nought at-start (AtValue arg) typed.occ typed.is)) u.1 in
+        let m = moves f gr main formed c single ranks arg typed.occ typed.is typed.typed (c.form.sites arg used) u.0 number.number number.is in
+        let silent = no_slope_fault f gr main formed c single ranks k N moving d normal (starts script g j (tables flow) suits prefix right over (flow_tables f gr.occs g j flow is)) (slope_fault_same ∙ none) in
+        let good = fine f gr main formed c single ranks k N moving d silent arg typed.occ typed.is typed.typed (c.form.sites arg used) u.0 number.number number.is in
+        ap (λ x. is_none x)
+        (ap (λ (x : KSite). held (y nought) x.slope) (sym twin) ∙ ap (λ x. held (y nought) x) w.slope
+        ∙ slopes f gr main formed c single ranks k N moving d arg typed.occ typed.is typed.typed (c.form.sites arg used) u.0 number.number m.b number.is m.there ∙ ap (λ b. if_fine b (sub m.b number.number)) good)
+      where
+        same_one : (x z : KSite) → Some x ≡ Some z → x ≡ z
+        same_one x z q = cc
+
+    site_there : (n : ℕ) (wires : KSite) → slice_get k.sites n ≡ Some wires → (is_active i.table wires && is_none (held (y nought) wires.slope)) ≡ false
+    site_there n wires is = by (held i.table wires.value) refl
+      where
+        by : (o : Option Value) → held i.table wires.value ≡ o → (is_some (held i.table wires.value) && is_none (held (y nought) wires.slope)) ≡ false
+        by None q = ap (λ o. is_some o && is_none (held (y nought) wires.slope)) q
+        by (Some v) q = ap₂ (λ o b. is_some o && b) q (slope_held n wires is v q)
+
+    -- and so has a memory that moves
+    memory_there : (p : ℕ) (place : PlaceInfo) (b a : ℕ) (arms : List DerArm) → slice_get f.places p ≡ Some place → definer_of place.definers ≡ Some (Der b a arms) → (is_some (held i.table (N.P p)) && is_none (held (y nought) (N.D p))) ≡ false
+    memory_there p place b a arms at definer = by (held i.table (N.P p)) refl
+      where
+        der : IsDefined f k N p place (Some (Der b a arms))
+        der = subst (λ o. IsDefined f k N p place o) definer (normal.places p place at).1
+
+        by : (o : Option Value) → held i.table (N.P p) ≡ o → (is_some (held i.table (N.P p)) && is_none (held (y nought) (N.D p))) ≡ false
+        by None q = ap (λ o. is_some o && is_none (held (y nought) (N.D p))) q
+        by (Some v) q =
+            ap₂ (λ o x. is_some o && is_none x) q
+            (ap (λ x. held (y nought) x) (sym (moving.ders p place b a der.memory der.slope arms None at definer der.moves).0) ∙ (derivative_there p place b a der.memory der.slope arms None at definer der.moves v q).3)
+
+    memories_there : (mems : List KMem) (p : ℕ) (places : List PlaceInfo) → AreMotions f gr.occs k N mems p places → ((n : ℕ) (place : PlaceInfo) → slice_get places n ≡ Some place → slice_get f.places (p + n) ≡ Some place) → list_any (λ (mem : KMem). stands_still i.table (y nought) mem mem.slope) mems ≡ false
+    memories_there _ _ _ (Done p) at = refl
+    memories_there _ _ _ (StillMemory mem mems p places still rest) at = ap₂ (λ a b. a || b) (ap (λ s. stands_still i.table (y nought) mem s) still) (memories_there mems p places rest at)
+    memories_there _ _ _ (StillPlace mems p place places none rest) at = memories_there mems (suc p) places rest (λ n q is. ap (λ m. slice_get f.places m) (omega arith) ∙ at (suc n) q is)
+    memories_there _ _ _ (Moving mem mems p place places b a arms definer next slope stands rest) at =
+        ap₂ (λ a b. a || b)
+        (ap (λ s. stands_still i.table (y nought) mem s) slope ∙ ap (λ n. is_some (held i.table n) && is_none (held (y nought) (N.D p))) next
+        ∙ memory_there p place b a arms (ap (λ m. slice_get f.places m) (omega arith) ∙ at 0 place refl) definer)
+        (memories_there mems (suc p) places rest (λ n q is. ap (λ m. slice_get f.places m) (omega arith) ∙ at (suc n) q is))
+
+    -- nothing is missing in the flow
+    pub flow_whole : flow_lacks k i (y nought) ≡ false
+    flow_whole = ap₂ (λ a b. a || b) (all_false _ k.sites site_there) (memories_there k.mems 0 f.places moving.motions (λ n place at. ap (λ m. slice_get f.places m) (omega arith) ∙ at))

@@ -20,6 +20,7 @@ pub mod SlopeWires
 pub mod SlopeOperators
 pub mod SlopeForms
 pub mod Runs
+pub mod NothingMissing
 pub mod WorkedParts
 pub mod AllSlopes
 pub mod NarrowSlopes

@@ -68,7 +68,7 @@ module _ (f : FlatForm) (gr : Grading) (names : List (List ℕ)) (k : KernelForm
   shows normal h g i j at none whole = same_shown f names N j.table i.table (λ p place is. at.corresponds.0.1.says.places p (place, is)) f.outs k.outs normal.outs
 
   module _ (main : IsMain f) (single : IsSingle f) (ranks : HasGuardRanks f) (lasts : KeepsLasts f) (normal : IsNormal f gr.occs names k N) (formed : IsWellFormed f) (keeps : KeepsFlows f gr) (suits : IsScriptFor (input_types f) script) where
-    law : KeepsRuns (system_of_kernel k) (system_of f gr.occs) script same_sites (Says f k N)
+    pub law : KeepsRuns (system_of_kernel k) (system_of f gr.occs) script same_sites (Says f k N)
     law =
         keeps_runs (system_of_kernel k) (system_of f gr.occs) script same_sites (Says f k N)
         (corresponds f k N gr.occs script main single normal.instants normal.flows ranks (same_count f names N f.ins k.ins normal.ins)

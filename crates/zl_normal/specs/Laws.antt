@@ -26,6 +26,7 @@ use Rattle.zl_normal.specs.MainBlock.{IsMain}
 use Rattle.zl_normal.specs.Evaluated.{HasGuardRanks, KeepsLasts}
 use Rattle.zl_normal.specs.Starts.{KeepsFlows}
 use Rattle.zl_normal.specs.Normal.{IsNormal}
+use Rattle.zl_meaning.specs.Decided.{HasOutputs, HasAgain}
 
 -- a site of the kernel has the number that it has in the form
 abbrev pub same_sites : List ℕ → List ℕ
@@ -46,3 +47,8 @@ pub record KeepsRunsOf (f : FlatForm) (grades : List ℕ) (names : List (List �
 -- alone, is single and has ranks, in which `last` is evaluated only with the call of its place, and that keeps its flows
 abbrev pub NormalFormKeepsRuns : Type 0
 NormalFormKeepsRuns = (f : FlatForm) (g : Grading) (names : List (List ℕ)) (k : KernelForm) (N : Wiring) → IsWellFormed f → IsMain f → IsSingle f → HasGuardRanks f → KeepsLasts f → KeepsFlows f g → IsNormal f g.occs names k N → (script : Script) → IsScriptFor (input_types f) script → KeepsRunsOf f g.occs names k N script
+
+-- under the same premises no run of a normal form ends for want of a value, if in the form's runs each result of main has one,
+-- and each occurrence of `again` that is evaluated at a step
+abbrev pub NormalFormLacksNothing : Type 0
+NormalFormLacksNothing = (f : FlatForm) (g : Grading) (names : List (List ℕ)) (k : KernelForm) (N : Wiring) → IsWellFormed f → IsMain f → IsSingle f → HasGuardRanks f → KeepsLasts f → KeepsFlows f g → IsNormal f g.occs names k N → HasOutputs f g.occs → HasAgain f g.occs → (script : Script) → IsScriptFor (input_types f) script → (h : History Registers) (ending : Ending) → IsRun (system_of_kernel k) script h ending → ending ≡ Empty → ⊥
