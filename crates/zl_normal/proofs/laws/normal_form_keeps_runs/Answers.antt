@@ -1,4 +1,4 @@
-use Rattle.zl_normal.proofs.Runs.{normal_runs}
+use Rattle.zl_normal.proofs.Runs.KeepsRuns.{normal_runs}
 use Rattle.zl_normal.proofs.laws.normal_form_keeps_runs.Goals as goal
 
 pub returns : goal.returns

@@ -1,4 +1,4 @@
-use Rattle.zl_normal.proofs.NothingMissing.{lacks_nothing}
+use Rattle.zl_normal.proofs.Runs.NothingMissing.{lacks_nothing}
 use Rattle.zl_normal.proofs.laws.normal_form_lacks_nothing.Goals as goal
 
 pub returns : goal.returns

@@ -22,8 +22,8 @@ use Rattle.zl_meaning.specs.declared.occurrence.Form.{Form}
 use Rattle.zl_meaning.specs.declared.occurrence.Occ.{Occ}
 use Rattle.zl_meaning.proofs.WrittenForms.{at-start, at-unit}
 use Rattle.zl_normal.specs.MainBlock.{IsMain}
-use Rattle.zl_normal.proofs.Values.{last_if}
-use Rattle.zl_normal.proofs.FlowValues.{InFlowOf, IsNumber, is_number, V, M, live_then, fine_at}
+use Rattle.zl_normal.proofs.Values.Entries.{last_if}
+use Rattle.zl_normal.proofs.Slopes.FlowValues.{InFlowOf, IsNumber, is_number, V, M, live_then, fine_at}
 
 pub nought_fits : fits nought ≡ true
 unfolding fits

@@ -41,13 +41,13 @@ use Rattle.zl_normal.specs.PlaceWires.{definer_of}
 use Rattle.zl_normal.specs.SlopeWires.{IsPresence, IsTested, IsSlopeMade, Negated, Sum, Difference, RightOfDifference, StillLeft, StillRight, Quotient, IsOperatorSlope, LeftOfSum, RightOfSum, LeftOfDifference, Itself}
 use Rattle.zl_normal.specs.Normal.{IsNormalInFlows}
 use Rattle.zl_normal.specs.MainBlock.{IsMain}
-use Rattle.zl_normal.proofs.Values.{Agrees}
-use Rattle.zl_normal.proofs.FlowValues.{InFlowOf, some_f, one_there, V, value_by, used_by, fine_at}
-use Rattle.zl_normal.proofs.Moving.{number_of, reduced_of, fine_of, no_more}
-use Rattle.zl_normal.proofs.MovingOperators.{Low, low_sum, low_product, low_quotient, Carries, carries_sum, carries_difference, carries_product, carries_quotient, Two, two, two_end}
-use Rattle.zl_normal.proofs.MovingForms.{shown, shown_one}
-use Rattle.zl_normal.proofs.MovingPlaces.{moves}
-use Rattle.zl_normal.proofs.SlopeWires.{flow_wire_is, same_number, if_fine, if_fine_same, there_fine, on_two, on_one, says_slope, settled, passed_on, passed_right, quotient_says, not_zero}
+use Rattle.zl_normal.proofs.Values.Entries.{Agrees}
+use Rattle.zl_normal.proofs.Slopes.FlowValues.{InFlowOf, some_f, one_there, V, value_by, used_by, fine_at}
+use Rattle.zl_normal.proofs.Slopes.Moving.{number_of, reduced_of, fine_of, no_more}
+use Rattle.zl_normal.proofs.Slopes.MovingOperators.{Low, low_sum, low_product, low_quotient, Carries, carries_sum, carries_difference, carries_product, carries_quotient, Two, two, two_end}
+use Rattle.zl_normal.proofs.Slopes.MovingForms.{shown, shown_one}
+use Rattle.zl_normal.proofs.Slopes.MovingPlaces.{moves}
+use Rattle.zl_normal.proofs.Slopes.SlopeWires.{flow_wire_is, same_number, if_fine, if_fine_same, there_fine, on_two, on_one, says_slope, settled, passed_on, passed_right, quotient_says, not_zero}
 
 -- a flow of a kernel beside one of the form
 pub record BesideFlow (f : FlatForm) (g : Grading) (main : IsMain f) (c : InFlowOf f g) (k : KernelForm) (N : Wiring) : Type 0 where

@@ -20,8 +20,8 @@ use Rattle.zl_meaning.proofs.GradesKept.OfTypes.{IsOf}
 use Rattle.zl_kernel.specs.Faults.{Ranked, ranked}
 use Rattle.zl_kernel.specs.Wires.{applied as worked}
 use Rattle.zl_kernel.specs.declared.wire.Wire.{Wire}
-use Rattle.zl_normal.proofs.Follows.{some_is}
-use Rattle.zl_normal.proofs.SlopeWires.{says_slope}
+use Rattle.zl_normal.proofs.Instants.Follows.{some_is}
+use Rattle.zl_normal.proofs.Slopes.SlopeWires.{says_slope}
 
 -- the first of the tests of the slopes that fails
 pub wide_of_two : (xs ys : List Tested) → first_wide (xs ++ ys) ≡ or_later (first_wide xs) (first_wide ys)

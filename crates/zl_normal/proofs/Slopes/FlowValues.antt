@@ -28,7 +28,7 @@ use Rattle.zl_meaning.proofs.GradesKept.Typed.{IsTyped}
 use Rattle.zl_meaning.proofs.GradesKept.UsesSay.{asked-by}
 use Rattle.zl_normal.specs.Starts.{GradesMoving}
 use Rattle.zl_normal.specs.MainBlock.{IsMain}
-use Rattle.zl_normal.proofs.Values.{value_if, used_if}
+use Rattle.zl_normal.proofs.Values.Entries.{value_if, used_if}
 
 -- a flow of a form after an instant of a run: `at` is what stands at its moments, `fine` says which slopes are fine
 pub record InFlowOf (f : FlatForm) (g : Grading) : Type 0 where

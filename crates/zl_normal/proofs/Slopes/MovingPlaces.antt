@@ -33,12 +33,12 @@ use Rattle.zl_meaning.proofs.GradesKept.UsesSay.{plain-used}
 use Rattle.zl_normal.specs.Evaluated.{HasGuardRanks}
 use Rattle.zl_normal.specs.PlaceWires.{definer_of}
 use Rattle.zl_normal.specs.MainBlock.{InMain, IsMain}
-use Rattle.zl_normal.proofs.Values.{active, place_if, defined_by}
-use Rattle.zl_normal.proofs.Motions.{IsAlone, alone}
-use Rattle.zl_normal.proofs.FlowValues.{InFlowOf, some_f, V, M, live_then, value_by, used_by}
-use Rattle.zl_normal.proofs.StillUsed.{stays}
-use Rattle.zl_normal.proofs.Moving.{MovesTo, Moves, leaf, alias, last_there, no_more}
-use Rattle.zl_normal.proofs.MovingForms.{if_moves, passed_moves, operator}
+use Rattle.zl_normal.proofs.Values.Entries.{active, place_if, defined_by}
+use Rattle.zl_normal.proofs.Flows.Motions.{IsAlone, alone}
+use Rattle.zl_normal.proofs.Slopes.FlowValues.{InFlowOf, some_f, V, M, live_then, value_by, used_by}
+use Rattle.zl_normal.proofs.Slopes.StillUsed.{stays}
+use Rattle.zl_normal.proofs.Slopes.Moving.{MovesTo, Moves, leaf, alias, last_there, no_more}
+use Rattle.zl_normal.proofs.Slopes.MovingForms.{if_moves, passed_moves, operator}
 
 -- the occurrence by which a place has its value, where its definers are active
 abbrev pub plain_names : Option Definer → List ℕ

@@ -64,19 +64,19 @@ use Rattle.zl_normal.specs.MainBlock.{IsMain}
 use Rattle.zl_normal.specs.Evaluated.{HasGuardRanks}
 use Rattle.zl_normal.specs.Starts.{StartsRight, HasNarrowDerivatives, GradesMoving}
 use Rattle.zl_normal.specs.Normal.{IsNormalAtInstants, IsNormalInFlows}
-use Rattle.zl_normal.proofs.Values.{blank_place}
-use Rattle.zl_normal.proofs.Follows.{Follow, live_now, looks_back, place_home, same_steps_at}
-use Rattle.zl_normal.proofs.Steps.{asks_same, fault_same, site_is, within, value_seen}
-use Rattle.zl_normal.proofs.Flows.{slope_is, no_value, flow_agrees}
-use Rattle.zl_normal.proofs.FlowValues.{InFlowOf, some_f, is_number}
-use Rattle.zl_normal.proofs.Moving.{fine_of}
-use Rattle.zl_normal.proofs.MovingPlaces.{definer_has, moves}
-use Rattle.zl_normal.proofs.StillUsed.{stays}
-use Rattle.zl_normal.proofs.SlopeOperators.{BesideFlow}
-use Rattle.zl_normal.proofs.SlopeWires.{if_fine}
-use Rattle.zl_normal.proofs.AllSlopes.{slopes}
-use Rattle.zl_normal.proofs.SlopeFaults.{same_slope_fault, no_slope_fault}
-use Rattle.zl_normal.proofs.FineSlopes.{fine}
+use Rattle.zl_normal.proofs.Values.Entries.{blank_place}
+use Rattle.zl_normal.proofs.Instants.Follows.{Follow, live_now, looks_back, place_home, same_steps_at}
+use Rattle.zl_normal.proofs.Instants.Steps.{asks_same, fault_same, site_is, within, value_seen}
+use Rattle.zl_normal.proofs.Flows.Beginnings.{slope_is, no_value, flow_agrees}
+use Rattle.zl_normal.proofs.Slopes.FlowValues.{InFlowOf, some_f, is_number}
+use Rattle.zl_normal.proofs.Slopes.Moving.{fine_of}
+use Rattle.zl_normal.proofs.Slopes.MovingPlaces.{definer_has, moves}
+use Rattle.zl_normal.proofs.Slopes.StillUsed.{stays}
+use Rattle.zl_normal.proofs.Slopes.SlopeOperators.{BesideFlow}
+use Rattle.zl_normal.proofs.Slopes.SlopeWires.{if_fine}
+use Rattle.zl_normal.proofs.Slopes.AllSlopes.{slopes}
+use Rattle.zl_normal.proofs.Slopes.SlopeFaults.{same_slope_fault, no_slope_fault}
+use Rattle.zl_normal.proofs.Slopes.FineSlopes.{fine}
 use Rattle.zl_normal.specs.SlopeWires.{AreMotions, Done, StillMemory, StillPlace, Moving}
 use Rattle.zl_kernel.specs.declared.memory.KMem.{KMem}
 

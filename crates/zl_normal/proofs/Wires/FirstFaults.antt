@@ -12,7 +12,7 @@ use Rattle.zl_kernel.specs.KernelForm.{KernelForm}
 use Rattle.zl_kernel.specs.Wires.{Moment as KernelMoment, wire_answer}
 use Rattle.zl_kernel.specs.Faults.{Ranked, ranked, lower, least_from}
 use Rattle.zl_kernel.specs.declared.wire.Wire.{Wire}
-use Rattle.zl_normal.proofs.Follows.{some_is}
+use Rattle.zl_normal.proofs.Instants.Follows.{some_is}
 
 pub clash : {X : Type 0} (x : X) → None ≡ Some x → ⊥
 clash x e = absurd cc

@@ -15,8 +15,8 @@ use Rattle.zl_normal.specs.FormWires.{IsOcc, IsCall}
 use Rattle.zl_normal.specs.UseGuards.{IsGuardFor, IsGuardBy, Unused, Once, OfCall, OfBranches}
 use Rattle.zl_normal.specs.Evaluated.{owner_of, IsOnlyWith, Itself, ByUses, ByCall, KeepsLasts}
 use Rattle.zl_normal.specs.Normal.{IsNormalAtInstants}
-use Rattle.zl_normal.proofs.Wires.{under_is, but_is, either_is}
-use Rattle.zl_normal.proofs.Follows.{some_is, LastsCalled}
+use Rattle.zl_normal.proofs.Wires.Solved.{under_is, but_is, either_is}
+use Rattle.zl_normal.proofs.Instants.Follows.{some_is, LastsCalled}
 
 both_true : (a b : Bool) → (a && b) ≡ true → a ≡ true
 both_true true b e = refl

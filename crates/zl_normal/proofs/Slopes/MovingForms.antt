@@ -28,9 +28,9 @@ use Rattle.zl_meaning.specs.declared.occurrence.Occ.{Occ}
 use Rattle.zl_meaning.proofs.StraightLines.{answered-given}
 use Rattle.zl_meaning.proofs.WrittenForms.{at-start, at-unit}
 use Rattle.zl_normal.specs.MainBlock.{IsMain}
-use Rattle.zl_normal.proofs.FlowValues.{InFlowOf, some_f, one_there, V, value_by, used_by}
-use Rattle.zl_normal.proofs.Moving.{MovesTo, Moves, number_of, fine_still, and_true, leaf, alias, same_test, same_int, no_more, below_zero}
-use Rattle.zl_normal.proofs.MovingOperators.{low_sum, low_product, low_quotient, carries_sum, carries_difference, carries_product, carries_quotient, two, two_move}
+use Rattle.zl_normal.proofs.Slopes.FlowValues.{InFlowOf, some_f, one_there, V, value_by, used_by}
+use Rattle.zl_normal.proofs.Slopes.Moving.{MovesTo, Moves, number_of, fine_still, and_true, leaf, alias, same_test, same_int, no_more, below_zero}
+use Rattle.zl_normal.proofs.Slopes.MovingOperators.{low_sum, low_product, low_quotient, carries_sum, carries_difference, carries_product, carries_quotient, two, two_move}
 
 module _ (f : FlatForm) (g : Grading) (main : IsMain f) (formed : IsWellFormed f) (c : InFlowOf f g) where
   abbrev V0 : State

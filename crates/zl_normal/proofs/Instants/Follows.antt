@@ -16,7 +16,7 @@ use Rattle.zl_meaning.specs.declared.occurrence.Form.TheVariants.{Last}
 use Rattle.zl_meaning.specs.declared.occurrence.Occ.{Occ}
 use Rattle.zl_kernel.specs.KernelForm.{KernelForm}
 use Rattle.zl_normal.specs.MainBlock.{IsMain}
-use Rattle.zl_normal.proofs.Values.{Agrees, mode_as, Together, applied_same, mode_flow, active, kept, later_is, blank_place}
+use Rattle.zl_normal.proofs.Values.Entries.{Agrees, mode_as, Together, applied_same, mode_flow, active, kept, later_is, blank_place}
 use Rattle.std.specs.Prelude.{◌+◌}
 use Rattle.zl_value.specs.Fraction.{Fraction}
 use Rattle.zl_meaning.specs.State.{Table, empty_table, state_in}
@@ -32,8 +32,8 @@ use Rattle.zl_normal.specs.KernelParts.{IsMemory}
 use Rattle.zl_normal.specs.Wiring.{Wiring, call_guard}
 use Rattle.zl_normal.specs.FormWires.{IsOcc, IsPlaceOf}
 use Rattle.zl_normal.specs.Normal.{IsNormalAtInstants}
-use Rattle.zl_normal.proofs.InstantPlaces.{fresh_wire}
-use Rattle.zl_normal.proofs.Instants.{agrees}
+use Rattle.zl_normal.proofs.Instants.Places.{fresh_wire}
+use Rattle.zl_normal.proofs.Instants.OneMoment.{agrees}
 
 pub some_is : {X : Type 0} (a b : X) → Some a ≡ Some b → a ≡ b
 some_is {X = X} a b e = ap (λ x. or_else x) e

@@ -24,9 +24,9 @@ use Rattle.zl_meaning.proofs.WrittenForms.{at-start, at-unit}
 use Rattle.zl_meaning.proofs.GradesKept.UsesSay.{if-of-branch}
 use Rattle.zl_normal.specs.Evaluated.{HasGuardRanks}
 use Rattle.zl_normal.specs.MainBlock.{IsMain}
-use Rattle.zl_normal.proofs.Values.{used_if}
-use Rattle.zl_normal.proofs.FlowValues.{InFlowOf, V, M, live_then, used_by}
-use Rattle.zl_normal.proofs.Moving.{same_test}
+use Rattle.zl_normal.proofs.Values.Entries.{used_if}
+use Rattle.zl_normal.proofs.Slopes.FlowValues.{InFlowOf, V, M, live_then, used_by}
+use Rattle.zl_normal.proofs.Slopes.Moving.{same_test}
 
 first_of : (a b : Bool) → (a && b) ≡ true → a ≡ true
 first_of true b e = refl

@@ -31,9 +31,9 @@ use Rattle.zl_normal.specs.FormWires.{IsOcc, IsCall, IsPlaceOf, IsPart, AreParts
 use Rattle.zl_normal.specs.PlaceWires.{definer_of, start_of, IsLast, NoStart, LitStart, ByStart, IsReset, Stays, Sure, Tested, IsDefined}
 use Rattle.zl_normal.specs.Normal.{IsNormalAtInstants}
 use Rattle.zl_kernel.specs.declared.wire.Def.TheVariants.{Mem, In, Step}
-use Rattle.zl_normal.proofs.Wires.{given_is, if_used_true, wire_is, lit_is, copy_is, if_is, under_is, but_is, guarded_is}
+use Rattle.zl_normal.proofs.Wires.Solved.{given_is, if_used_true, wire_is, lit_is, copy_is, if_is, under_is, but_is, guarded_is}
 use Rattle.zl_normal.specs.MainBlock.{IsMain}
-use Rattle.zl_normal.proofs.Values.{Together, if_same, and_both, mode_step, holds_is, started_by, defined_by, last_if, place_if, value_if}
+use Rattle.zl_normal.proofs.Values.Entries.{Together, if_same, and_both, mode_step, holds_is, started_by, defined_by, last_if, place_if, value_if}
 
 some_or : {X : Type 0} → Option X → X → X
 some_or None d = d

@@ -19,7 +19,7 @@ use Rattle.zl_kernel.specs.System.{flow_moment}
 use Rattle.zl_kernel.specs.declared.wire.Def.{Def}
 use Rattle.zl_value.specs.Instants.{Instant}
 use Rattle.zl_normal.specs.KernelParts.{IsFlowWire}
-use Rattle.zl_normal.proofs.Wires.{turned}
+use Rattle.zl_normal.proofs.Wires.Solved.{turned}
 
 gate : (b : Bool) (a : Answer) → answered (if b then a else Nothing) ≡ if_used b (answered a)
 gate true a = refl

@@ -60,13 +60,13 @@ use Rattle.zl_normal.specs.Evaluated.{HasGuardRanks, KeepsLasts}
 use Rattle.zl_normal.specs.Starts.{KeepsFlows}
 use Rattle.zl_normal.specs.Normal.{IsNormal}
 use Rattle.zl_normal.specs.Laws.{same_sites}
-use Rattle.zl_normal.proofs.Wires.{given_is, AreBools, wire_is, lit_is, any_is}
-use Rattle.zl_normal.proofs.Values.{value_if}
-use Rattle.zl_normal.proofs.Follows.{Follow, mapped, mode_instant}
-use Rattle.zl_normal.proofs.Steps.{fault_same, within}
-use Rattle.zl_normal.proofs.Corresponds.{Says, follows, some_course}
-use Rattle.zl_normal.proofs.FlowLaw.{all_false, inside, flow_whole}
-use Rattle.zl_normal.proofs.Runs.{law}
+use Rattle.zl_normal.proofs.Wires.Solved.{given_is, AreBools, wire_is, lit_is, any_is}
+use Rattle.zl_normal.proofs.Values.Entries.{value_if}
+use Rattle.zl_normal.proofs.Instants.Follows.{Follow, mapped, mode_instant}
+use Rattle.zl_normal.proofs.Instants.Steps.{fault_same, within}
+use Rattle.zl_normal.proofs.Runs.Corresponds.{Says, follows, some_course}
+use Rattle.zl_normal.proofs.Flows.FlowLaw.{all_false, inside, flow_whole}
+use Rattle.zl_normal.proofs.Runs.KeepsRuns.{law}
 
 there : (o : Option Value) → is_some o ≡ true → is_none o ≡ false
 there None e = absurd cc

@@ -21,11 +21,11 @@ use Rattle.zl_normal.specs.Wiring.{Wiring}
 use Rattle.zl_normal.specs.FormWires.{AreParts, AreLits, IsApplied, Made, Folded, IsFormWire}
 use Rattle.zl_normal.specs.Normal.{IsNormalAtInstants}
 use Rattle.zl_kernel.specs.declared.wire.Def.TheVariants.{Lit as LitWire, Copy, Mem, In, Event, Step, Op as OpWire, If as IfWire}
-use Rattle.zl_normal.proofs.Wires.{lit_is}
-use Rattle.zl_normal.proofs.Follows.{some_is}
-use Rattle.zl_normal.proofs.FirstFaults.{clash, at_ord, zero_more, ranked_is, first_from, same_first}
+use Rattle.zl_normal.proofs.Wires.Solved.{lit_is}
+use Rattle.zl_normal.proofs.Instants.Follows.{some_is}
+use Rattle.zl_normal.proofs.Wires.FirstFaults.{clash, at_ord, zero_more, ranked_is, first_from, same_first}
 use Rattle.zl_normal.specs.MainBlock.{IsMain}
-use Rattle.zl_normal.proofs.Values.{Agrees, mode_as, applied_same, mode_flow}
+use Rattle.zl_normal.proofs.Values.Entries.{Agrees, mode_as, applied_same, mode_flow}
 use Rattle.std.specs.Prelude.{◌⊎◌}
 use Rattle.std.proofs.Common.{⊎_elim, inl, inr}
 use Rattle.zl_value.specs.declared.position.Pos.{Pos}

@@ -38,15 +38,15 @@ use Rattle.zl_normal.specs.PlaceWires.{definer_of}
 use Rattle.zl_normal.specs.SlopeWires.{IsFormSlope, IsSlopeMade, IsOperatorSlope, LeftOfSum, RightOfSum, LeftOfDifference, Itself}
 use Rattle.zl_normal.specs.Normal.{IsNormalInFlows}
 use Rattle.zl_normal.specs.MainBlock.{IsMain}
-use Rattle.zl_normal.proofs.Values.{defined_by}
-use Rattle.zl_normal.proofs.FlowValues.{InFlowOf, some_f, V, M, live_then, value_by, used_by}
-use Rattle.zl_normal.proofs.Moving.{fine_of, reduced_of, same_test, last_there, nought_fits}
-use Rattle.zl_normal.proofs.MovingForms.{branch_there, branch_is, chosen_source}
-use Rattle.zl_normal.proofs.MovingOperators.{low_sum, carries_sum, carries_difference}
-use Rattle.zl_normal.proofs.MovingPlaces.{plain_names, definer_has, no_start, moved_there, AtPlaces, at_places, sources_are, last_is}
-use Rattle.zl_normal.proofs.SlopeWires.{if_fine, there_fine}
-use Rattle.zl_normal.proofs.SlopeOperators.{BesideFlow, fine_fits, two_slopes}
-use Rattle.zl_normal.proofs.AllSlopes.{slopes}
+use Rattle.zl_normal.proofs.Values.Entries.{defined_by}
+use Rattle.zl_normal.proofs.Slopes.FlowValues.{InFlowOf, some_f, V, M, live_then, value_by, used_by}
+use Rattle.zl_normal.proofs.Slopes.Moving.{fine_of, reduced_of, same_test, last_there, nought_fits}
+use Rattle.zl_normal.proofs.Slopes.MovingForms.{branch_there, branch_is, chosen_source}
+use Rattle.zl_normal.proofs.Slopes.MovingOperators.{low_sum, carries_sum, carries_difference}
+use Rattle.zl_normal.proofs.Slopes.MovingPlaces.{plain_names, definer_has, no_start, moved_there, AtPlaces, at_places, sources_are, last_is}
+use Rattle.zl_normal.proofs.Slopes.SlopeWires.{if_fine, there_fine}
+use Rattle.zl_normal.proofs.Slopes.SlopeOperators.{BesideFlow, fine_fits, two_slopes}
+use Rattle.zl_normal.proofs.Slopes.AllSlopes.{slopes}
 
 both_true : (a b : Bool) → (a && b) ≡ true → (a ≡ true) × (b ≡ true)
 both_true true b e = (refl, e)

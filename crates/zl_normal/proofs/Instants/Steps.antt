@@ -14,7 +14,7 @@ use Rattle.zl_meaning.specs.declared.occurrence.Form.{Form}
 use Rattle.zl_meaning.specs.declared.occurrence.Form.TheVariants.{Lit, Read, Last, Op as Apply, If, Arrow, Pre, Result, Up, Fired, Step as AtSteps}
 use Rattle.zl_kernel.specs.KernelForm.{KernelForm}
 use Rattle.zl_kernel.specs.declared.wire.Def.TheVariants.{Op as OpWire}
-use Rattle.zl_normal.proofs.Wires.{wire_is, lit_is}
+use Rattle.zl_normal.proofs.Wires.Solved.{wire_is, lit_is}
 use Rattle.std.specs.Prelude.{◌+◌, is_none}
 use Rattle.std.specs.List.{filter}
 use Rattle.std.proofs.Common.{⊎_elim}
@@ -38,7 +38,7 @@ use Rattle.zl_normal.specs.FormWires.{IsOcc}
 use Rattle.zl_normal.specs.Normal.{IsNormalAtInstants}
 use Rattle.zl_kernel.specs.declared.memory.KMem.{KMem}
 use Rattle.zl_kernel.specs.declared.site.KSite.{KSite}
-use Rattle.zl_normal.proofs.Faults.{same_fault}
+use Rattle.zl_normal.proofs.Instants.Faults.{same_fault}
 use Rattle.std.proofs.lemmas.Bool.Decides.{eqb_tells}
 use Rattle.zl_value.specs.declared.op.Op.TheVariants.{Or}
 use Rattle.zl_meaning.specs.Solves.{argument_in, marked, marks_fresh, fresh_in}
@@ -51,9 +51,9 @@ use Rattle.zl_value.specs.System.{is_some_site}
 use Rattle.zl_kernel.specs.Wires.{applied as worked}
 use Rattle.zl_kernel.specs.declared.wire.Def.TheVariants.{Op as OpWire}
 use Rattle.zl_normal.specs.MainBlock.{IsMain}
-use Rattle.zl_normal.proofs.Values.{Agrees, mode_as}
-use Rattle.zl_normal.proofs.Wires.{lit_is, wire_is}
-use Rattle.zl_normal.proofs.Follows.{is_begun, mode_same, mode_instant, SameInstant, Follow, live_now, mapped, latest, Remember}
+use Rattle.zl_normal.proofs.Values.Entries.{Agrees, mode_as}
+use Rattle.zl_normal.proofs.Wires.Solved.{lit_is, wire_is}
+use Rattle.zl_normal.proofs.Instants.Follows.{is_begun, mode_same, mode_instant, SameInstant, Follow, live_now, mapped, latest, Remember}
 
 -- lists of numbers
 filter_same : (n base : ℕ) (p q : ℕ → Bool) → ((j : ℕ) → j < n → p (base + j) ≡ q (base + j)) → filter p (listed n base (λ x. x)) ≡ filter q (listed n base (λ x. x))

@@ -43,18 +43,18 @@ use Rattle.zl_normal.specs.FormWires.{AreParts, IsApplied, Made, Folded, IsFormW
 use Rattle.zl_normal.specs.SlopeWires.{IsTested, IsSlopeMade, Negated, Sum, Difference, RightOfDifference, StillLeft, StillRight, Quotient, IsOwnSlope}
 use Rattle.zl_normal.specs.Normal.{IsOwn, IsNormalAtInstants, IsNormalInFlows}
 use Rattle.zl_normal.specs.MainBlock.{IsMain}
-use Rattle.zl_normal.proofs.Follows.{some_is}
-use Rattle.zl_normal.proofs.FirstFaults.{zero_more, first_none, clash, at_ord, ranked_is, first_from, WireOf, TurnOf, same_first}
-use Rattle.zl_normal.proofs.Values.{applied_same}
-use Rattle.zl_normal.proofs.Faults.{operators, not_right, or_right, gate_fault}
-use Rattle.zl_normal.proofs.FlowValues.{InFlowOf, some_f, V}
-use Rattle.zl_normal.proofs.Moving.{MovesTo}
-use Rattle.zl_normal.proofs.MovingPlaces.{moves}
-use Rattle.zl_normal.proofs.SlopeWires.{flow_wire_is, says_slope}
-use Rattle.zl_normal.proofs.SlopeOperators.{BesideFlow, Sloped, SaysSlope, made_says, present_is, open_is}
-use Rattle.zl_normal.proofs.NarrowSlopes.{HasOwn, narrow_same, narrow_form}
-use Rattle.zl_normal.proofs.AllSlopes.{slopes}
-use Rattle.zl_normal.proofs.WideSlopes.{wide_of_two, IsWide, wide_is, is_wide, float_of, eq_right, low_true, true_low, SaysWide, says_wide, wide_says, gate_open, used_value}
+use Rattle.zl_normal.proofs.Instants.Follows.{some_is}
+use Rattle.zl_normal.proofs.Wires.FirstFaults.{zero_more, first_none, clash, at_ord, ranked_is, first_from, WireOf, TurnOf, same_first}
+use Rattle.zl_normal.proofs.Values.Entries.{applied_same}
+use Rattle.zl_normal.proofs.Instants.Faults.{operators, not_right, or_right, gate_fault}
+use Rattle.zl_normal.proofs.Slopes.FlowValues.{InFlowOf, some_f, V}
+use Rattle.zl_normal.proofs.Slopes.Moving.{MovesTo}
+use Rattle.zl_normal.proofs.Slopes.MovingPlaces.{moves}
+use Rattle.zl_normal.proofs.Slopes.SlopeWires.{flow_wire_is, says_slope}
+use Rattle.zl_normal.proofs.Slopes.SlopeOperators.{BesideFlow, Sloped, SaysSlope, made_says, present_is, open_is}
+use Rattle.zl_normal.proofs.Slopes.NarrowSlopes.{HasOwn, narrow_same, narrow_form}
+use Rattle.zl_normal.proofs.Slopes.AllSlopes.{slopes}
+use Rattle.zl_normal.proofs.Slopes.WideSlopes.{wide_of_two, IsWide, wide_is, is_wide, float_of, eq_right, low_true, true_low, SaysWide, says_wide, wide_says, gate_open, used_value}
 
 module _ (f : FlatForm) (g : Grading) (main : IsMain f) (formed : IsWellFormed f) (c : InFlowOf f g) (single : IsSingle f) (ranks : HasGuardRanks f) (k : KernelForm) (N : Wiring) (moving : IsNormalInFlows f g.occs k N) (d : BesideFlow f g main c k N) where
   -- the fault of an occurrence's slope

@@ -29,8 +29,8 @@ use Rattle.zl_normal.specs.PlaceWires.{definer_of, IsDefined, IsDer}
 use Rattle.zl_normal.specs.MainBlock.{InMain, IsMain}
 use Rattle.zl_normal.specs.SlopeWires.{AreMotions, Done, StillMemory, StillPlace, Moving}
 use Rattle.zl_normal.specs.Normal.{IsNormalAtInstants, IsNormalInFlows}
-use Rattle.zl_normal.proofs.Follows.{Follow, some_is}
-use Rattle.zl_normal.proofs.Flows.{slope_is, no_value}
+use Rattle.zl_normal.proofs.Instants.Follows.{Follow, some_is}
+use Rattle.zl_normal.proofs.Flows.Beginnings.{slope_is, no_value}
 
 motion_is : (at : Pos) (x y : Option Value) → motion at x y ≡ place_motion at x y
 motion_is at (Some (F a)) (Some (F b)) = refl

@@ -29,12 +29,12 @@ use Rattle.zl_normal.specs.Wiring.{Wiring}
 use Rattle.zl_normal.specs.SlopeWires.{IsChosenSlope, One, Kept, Either}
 use Rattle.zl_normal.specs.Normal.{IsNormalInFlows}
 use Rattle.zl_normal.specs.MainBlock.{IsMain}
-use Rattle.zl_normal.proofs.Wires.{given_is}
-use Rattle.zl_normal.proofs.FlowValues.{InFlowOf, some_f, V, value_by, used_by, fine_at}
-use Rattle.zl_normal.proofs.Moving.{reduced_of, fine_of, and_true, same_test, no_more, nought_fits}
-use Rattle.zl_normal.proofs.MovingForms.{branch_there, branch_is, chosen_source}
-use Rattle.zl_normal.proofs.SlopeWires.{flow_wire_is, if_fine, passed_on}
-use Rattle.zl_normal.proofs.SlopeOperators.{BesideFlow, Sloped, fine_fits, open_is, zero_is}
+use Rattle.zl_normal.proofs.Wires.Solved.{given_is}
+use Rattle.zl_normal.proofs.Slopes.FlowValues.{InFlowOf, some_f, V, value_by, used_by, fine_at}
+use Rattle.zl_normal.proofs.Slopes.Moving.{reduced_of, fine_of, and_true, same_test, no_more, nought_fits}
+use Rattle.zl_normal.proofs.Slopes.MovingForms.{branch_there, branch_is, chosen_source}
+use Rattle.zl_normal.proofs.Slopes.SlopeWires.{flow_wire_is, if_fine, passed_on}
+use Rattle.zl_normal.proofs.Slopes.SlopeOperators.{BesideFlow, Sloped, fine_fits, open_is, zero_is}
 
 module _ (f : FlatForm) (g : Grading) (main : IsMain f) (formed : IsWellFormed f) (c : InFlowOf f g) (single : IsSingle f) (ranks : HasGuardRanks f) (k : KernelForm) (N : Wiring) (moving : IsNormalInFlows f g.occs k N) (d : BesideFlow f g main c k N) where
   abbrev Slope : ℕ → Type 0

@@ -23,8 +23,8 @@ use Rattle.zl_meaning.specs.declared.occurrence.Form.TheVariants.{Op as Apply}
 use Rattle.zl_meaning.specs.declared.occurrence.Occ.{Occ}
 use Rattle.zl_meaning.proofs.WrittenForms.{at-start, at-unit}
 use Rattle.zl_normal.specs.MainBlock.{IsMain}
-use Rattle.zl_normal.proofs.FlowValues.{InFlowOf, some_f, two_there, V, value_by, used_by}
-use Rattle.zl_normal.proofs.Moving.{MovesTo, Moves, number_of, fine_still, and_true}
+use Rattle.zl_normal.proofs.Slopes.FlowValues.{InFlowOf, some_f, two_there, V, value_by, used_by}
+use Rattle.zl_normal.proofs.Slopes.Moving.{MovesTo, Moves, number_of, fine_still, and_true}
 
 -- the grades of operands
 pub record Low (n x y : ℕ) : Type 0 where

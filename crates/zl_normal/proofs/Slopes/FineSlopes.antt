@@ -38,17 +38,17 @@ use Rattle.zl_normal.specs.PlaceWires.{definer_of}
 use Rattle.zl_normal.specs.Normal.{IsNormalInFlows}
 use Rattle.zl_normal.specs.MainBlock.{IsMain}
 use Rattle.zl_meaning.specs.Places.{last_of}
-use Rattle.zl_normal.proofs.Values.{defined_by}
-use Rattle.zl_normal.proofs.FirstFaults.{clash}
-use Rattle.zl_normal.proofs.FlowValues.{InFlowOf, V, M, live_then, value_by, used_by, one_there, fine_at}
-use Rattle.zl_normal.proofs.Moving.{MovesTo, fine_of, number_of, and_true, no_more}
-use Rattle.zl_normal.proofs.MovingForms.{branch_there, branch_is, chosen_source}
-use Rattle.zl_normal.proofs.MovingOperators.{Low, low_sum, low_product, low_quotient, two}
-use Rattle.zl_normal.proofs.MovingPlaces.{plain_names, definer_has, no_start, AtPlaces, at_places, sources_are, moves}
-use Rattle.zl_normal.proofs.SlopeOperators.{BesideFlow}
-use Rattle.zl_normal.proofs.NarrowSlopes.{HasOwn, narrow_same, narrow_form}
-use Rattle.zl_normal.proofs.WideSlopes.{is_wide, low_true}
-use Rattle.zl_normal.proofs.SlopeFaults.{slope_at, old_grade}
+use Rattle.zl_normal.proofs.Values.Entries.{defined_by}
+use Rattle.zl_normal.proofs.Wires.FirstFaults.{clash}
+use Rattle.zl_normal.proofs.Slopes.FlowValues.{InFlowOf, V, M, live_then, value_by, used_by, one_there, fine_at}
+use Rattle.zl_normal.proofs.Slopes.Moving.{MovesTo, fine_of, number_of, and_true, no_more}
+use Rattle.zl_normal.proofs.Slopes.MovingForms.{branch_there, branch_is, chosen_source}
+use Rattle.zl_normal.proofs.Slopes.MovingOperators.{Low, low_sum, low_product, low_quotient, two}
+use Rattle.zl_normal.proofs.Slopes.MovingPlaces.{plain_names, definer_has, no_start, AtPlaces, at_places, sources_are, moves}
+use Rattle.zl_normal.proofs.Slopes.SlopeOperators.{BesideFlow}
+use Rattle.zl_normal.proofs.Slopes.NarrowSlopes.{HasOwn, narrow_same, narrow_form}
+use Rattle.zl_normal.proofs.Slopes.WideSlopes.{is_wide, low_true}
+use Rattle.zl_normal.proofs.Slopes.SlopeFaults.{slope_at, old_grade}
 
 module _ (f : FlatForm) (g : Grading) (main : IsMain f) (formed : IsWellFormed f) (c : InFlowOf f g) (single : IsSingle f) (ranks : HasGuardRanks f) (k : KernelForm) (N : Wiring) (moving : IsNormalInFlows f g.occs k N) (d : BesideFlow f g main c k N) (right : (j : ℕ) (occ : Occ) → slice_get f.occs j ≡ Some occ → slope_at f g main formed c single ranks k N moving d j occ ≡ None) where
   abbrev pub Fine : ℕ → Type 0

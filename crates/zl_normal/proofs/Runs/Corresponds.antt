@@ -39,14 +39,14 @@ use Rattle.zl_normal.specs.KernelParts.{IsMemory}
 use Rattle.zl_normal.specs.PlaceWires.{definer_of}
 use Rattle.zl_normal.specs.MainBlock.{IsMain}
 use Rattle.zl_normal.specs.Normal.{IsNormalAtInstants, IsNormalInFlows}
-use Rattle.zl_normal.proofs.Follows.{is_begun, SameInstant, Follow, live_now, mapped, beside, Remember, LastsCalled, same_instant}
+use Rattle.zl_normal.proofs.Instants.Follows.{is_begun, SameInstant, Follow, live_now, mapped, beside, Remember, LastsCalled, same_instant}
 use Rattle.zl_normal.specs.Laws.{same_sites}
 use Rattle.zl_normal.specs.Evaluated.{HasGuardRanks, KeepsLasts}
-use Rattle.zl_normal.proofs.Lasts.{lasts_called}
-use Rattle.zl_normal.proofs.Steps.{fired_same, fault_same, asks_same, remember_step}
-use Rattle.zl_normal.proofs.Values.{active}
-use Rattle.zl_normal.proofs.Flows.{moves_same}
-use Rattle.zl_normal.proofs.Motions.{motions_same}
+use Rattle.zl_normal.proofs.Values.Lasts.{lasts_called}
+use Rattle.zl_normal.proofs.Instants.Steps.{fired_same, fault_same, asks_same, remember_step}
+use Rattle.zl_normal.proofs.Values.Entries.{active}
+use Rattle.zl_normal.proofs.Flows.Beginnings.{moves_same}
+use Rattle.zl_normal.proofs.Flows.Motions.{motions_same}
 
 -- tests on the same numbers
 any_same : (n base : ℕ) (p q : ℕ → Bool) → ((j : ℕ) → j < n → p (base + j) ≡ q (base + j)) → list_any p (listed n base (λ x. x)) ≡ list_any q (listed n base (λ x. x))

@@ -38,14 +38,14 @@ use Rattle.zl_normal.specs.PlaceWires.{definer_of}
 use Rattle.zl_normal.specs.SlopeWires.{Moves as IsGraded, IsAppended, IsFormSlope, IsPlaceSlope}
 use Rattle.zl_normal.specs.Normal.{IsNormalInFlows}
 use Rattle.zl_normal.specs.MainBlock.{IsMain}
-use Rattle.zl_normal.proofs.FlowValues.{InFlowOf, some_f, V, M, live_then, value_by, used_by}
-use Rattle.zl_normal.proofs.Values.{defined_by}
+use Rattle.zl_normal.proofs.Slopes.FlowValues.{InFlowOf, some_f, V, M, live_then, value_by, used_by}
+use Rattle.zl_normal.proofs.Values.Entries.{defined_by}
 use Rattle.zl_meaning.specs.Places.{last_of, moved}
-use Rattle.zl_normal.proofs.Moving.{fine_of, and_true, last_there, no_more}
-use Rattle.zl_normal.proofs.MovingPlaces.{plain_names, definer_has, no_start, moved_there, AtPlaces, at_places, sources_are, last_is, moves}
-use Rattle.zl_normal.proofs.SlopeWires.{if_fine}
-use Rattle.zl_normal.proofs.SlopeOperators.{BesideFlow, Sloped, operator_sloped}
-use Rattle.zl_normal.proofs.SlopeForms.{fine_is, still_here, leaf_here, alias_here, if_here}
+use Rattle.zl_normal.proofs.Slopes.Moving.{fine_of, and_true, last_there, no_more}
+use Rattle.zl_normal.proofs.Slopes.MovingPlaces.{plain_names, definer_has, no_start, moved_there, AtPlaces, at_places, sources_are, last_is, moves}
+use Rattle.zl_normal.proofs.Slopes.SlopeWires.{if_fine}
+use Rattle.zl_normal.proofs.Slopes.SlopeOperators.{BesideFlow, Sloped, operator_sloped}
+use Rattle.zl_normal.proofs.Slopes.SlopeForms.{fine_is, still_here, leaf_here, alias_here, if_here}
 
 module _ (f : FlatForm) (g : Grading) (main : IsMain f) (formed : IsWellFormed f) (c : InFlowOf f g) (single : IsSingle f) (ranks : HasGuardRanks f) (k : KernelForm) (N : Wiring) (moving : IsNormalInFlows f g.occs k N) (d : BesideFlow f g main c k N) where
   abbrev Slope : ℕ → Type 0
