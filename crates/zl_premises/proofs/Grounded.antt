@@ -1,5 +1,5 @@
 -- What the law of grades rests on, for a form whose grades are allowed, and the flow after an instant of its runs.
-use Rattle.std.specs.Prelude.{◌≡◌, ℕ, ◌∷◌, Option, None}
+use Rattle.std.specs.Prelude.{◌≡◌, ◌∷◌, None}
 use Rattle.zl_value.specs.Fraction.{Fraction}
 use Rattle.zl_value.specs.Script.{IsScriptFor}
 use Rattle.zl_value.specs.declared.script.Script.{Script}

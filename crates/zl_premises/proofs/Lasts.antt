@@ -1,11 +1,11 @@
 -- What `last` stands in is evaluated only with the call in whose copy it stands.
-use Rattle.std.specs.Prelude.{◌≡◌, ◌⊎◌, ℕ, zero, suc, ◌-◌, ◌<◌, Bool, List, [], ◌∷◌, length, slice_get, Option, Some, None}
+use Rattle.std.specs.Prelude.{◌≡◌, ◌⊎◌, ℕ, zero, suc, ◌-◌, ◌<◌, List, [], ◌∷◌, length, slice_get, Option, Some, None}
 use Rattle.std.specs.Option.{option_map, option_and_then}
 use Rattle.std.proofs.Common.{refl, sym, ap, ◌∙◌, subst, ⊎_elim, inl, inr, arith}
 use Rattle.std.proofs.lemmas.Option.{slice_get_within}
 use Rattle.zl_value.specs.Lists.{Has}
 use Rattle.zl_meaning.specs.FlatForm.{FlatForm, HasForm, call_of}
-use Rattle.zl_meaning.specs.Uses.{Use, PartOf, BranchOf, DefinerOf, SlopeOf, EventOf, StartOf, ResetOf, TestOf, ArgumentOf, AgainOf, IsUse, AsTest, AsAgain, IsTest, OfChoice, OfReset, OfMove, IsUnused, parts, uses_of}
+use Rattle.zl_meaning.specs.Uses.{Use, PartOf, BranchOf, DefinerOf, SlopeOf, EventOf, StartOf, ResetOf, TestOf, ArgumentOf, AgainOf, IsUse, AsAgain, parts, uses_of}
 use Rattle.zl_meaning.specs.Branches.{IsPart}
 use Rattle.zl_meaning.specs.Copies.{IsByDefiner}
 use Rattle.zl_meaning.specs.Regular.{Context, Plainly, WithLast, Discrete, Hybrid, context_of_block, branch_context, part_context, use_context, form_in, is_hybrid_block, IsAllowed, IsRegular}

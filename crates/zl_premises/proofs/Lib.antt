@@ -5,3 +5,9 @@ pub mod Untested
 pub mod Lasts
 pub mod Widths
 pub mod WidthRuns
+pub mod Climbs
+pub mod Turns
+pub mod GuardLevels
+pub mod GuardRanks
+pub mod EntryRanks
+pub mod Whole

@@ -1,13 +1,11 @@
 -- What a `der` defines has at least grade 1 by the table.
-use Rattle.std.specs.Prelude.{◌≡◌, ℕ, ◌≤◌, max, List, [], ◌∷◌, slice_get, Some}
-use Rattle.std.proofs.Common.{refl, ap, arith}
+use Rattle.std.specs.Prelude.{◌≤◌, max, List, [], ◌∷◌}
+use Rattle.std.proofs.Common.{ap, arith}
 use Rattle.zl_value.specs.Lists.{Has}
 use Rattle.zl_meaning.specs.FlatForm.{FlatForm}
-use Rattle.zl_meaning.specs.Grades.{Grading, place_grade, definer_grade, greatest_grade, AreGrades}
+use Rattle.zl_meaning.specs.Grades.{Grading, definer_grade, greatest_grade, AreGrades}
 use Rattle.zl_meaning.specs.declared.place.Definer.{Definer}
 use Rattle.zl_meaning.specs.declared.place.Definer.TheVariants.{Der}
-use Rattle.zl_meaning.specs.declared.place.DerArm.{DerArm}
-use Rattle.zl_meaning.specs.declared.place.PlaceInfo.{PlaceInfo}
 use Rattle.zl_meaning.proofs.Members.{has-cases, has-none}
 use Rattle.zl_normal.specs.Starts.{GradesMoving}
 

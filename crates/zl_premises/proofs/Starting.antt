@@ -1,5 +1,5 @@
 -- What is evaluated where a flow begins had at the instant the operands that it has then, and no fault.
-use Rattle.std.specs.Prelude.{◌≡◌, ℕ, true, List, [], ◌∷◌, slice_get, Option, Some, None}
+use Rattle.std.specs.Prelude.{◌≡◌, ℕ, List, [], ◌∷◌, Option, Some, None}
 use Rattle.std.specs.Option.{option_map, option_and_then}
 use Rattle.std.proofs.Common.{refl, sym, ap, ap₂, ◌∙◌}
 use Rattle.zl_value.specs.Lists.{Has}
@@ -8,7 +8,7 @@ use Rattle.zl_value.specs.Instants.{Kind, Step, Left}
 use Rattle.zl_value.specs.declared.value.Value.{Value}
 use Rattle.zl_value.specs.declared.op.Op.{Op}
 use Rattle.zl_meaning.specs.FlatForm.{FlatForm}
-use Rattle.zl_meaning.specs.State.{State, AtUsed, AtValue, state_in}
+use Rattle.zl_meaning.specs.State.{State, AtValue, state_in}
 use Rattle.zl_meaning.specs.History.{state_of}
 use Rattle.zl_meaning.specs.Moment.{AtStep}
 use Rattle.zl_meaning.specs.Occurrences.{gathered, applied, answer}
@@ -16,8 +16,6 @@ use Rattle.zl_meaning.specs.Solves.{fault_of, mode_of, moment_of}
 use Rattle.zl_meaning.specs.Decided.{HasTests, HasDerivatives}
 use Rattle.zl_meaning.specs.Grades.{Grading}
 use Rattle.zl_meaning.specs.GradesLaw.{IsGradable, AreAllowed}
-use Rattle.zl_meaning.specs.declared.occurrence.Form.TheVariants.{Op as Apply}
-use Rattle.zl_meaning.specs.declared.occurrence.Occ.{Occ}
 use Rattle.zl_meaning.specs.Regular.{is_value}
 use Rattle.zl_meaning.proofs.Members.{has-later}
 use Rattle.zl_meaning.proofs.GradesKept.AtStart.{no_fault}

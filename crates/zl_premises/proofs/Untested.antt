@@ -1,11 +1,10 @@
 -- A form that has the main block alone has no tests.
-use Rattle.std.specs.Prelude.{◌≡◌, ℕ, zero, suc, ◌+◌, ◌<◌, Bool, true, false, if◌then◌else◌, List, [], ◌∷◌, length, slice_get, Option, Some, None}
+use Rattle.std.specs.Prelude.{◌≡◌, ℕ, zero, suc, ◌+◌, ◌<◌, Bool, true, false, if◌then◌else◌, List, [], ◌∷◌, length, slice_get, Some, None}
 use Rattle.std.specs.Option.{option_map}
-use Rattle.std.proofs.Common.{refl, sym, ap, ◌∙◌, subst, arith}
+use Rattle.std.proofs.Common.{sym, ◌∙◌, subst, arith}
 use Rattle.std.proofs.lemmas.Option.{slice_get_within}
-use Rattle.zl_value.specs.Lists.{Has}
 use Rattle.zl_meaning.specs.FlatForm.{FlatForm, kind_of}
-use Rattle.zl_meaning.specs.Uses.{TestOf, IsUse, AsTest, IsTest, OfChoice, OfReset, OfMove}
+use Rattle.zl_meaning.specs.Uses.{TestOf, IsUse, AsTest, OfChoice, OfReset, OfMove}
 use Rattle.zl_meaning.specs.WellFormed.{IsWellFormed, body_count}
 use Rattle.zl_meaning.specs.declared.block.Auto.{Auto}
 use Rattle.zl_meaning.specs.declared.block.Block.{Block}

@@ -1,5 +1,5 @@
 -- At each instant of a run all values are in the width.
-use Rattle.std.specs.Prelude.{◌≡◌, ℕ, zero, suc, ◌+◌, ◌<◌, nat_eq, Bool, true, false, if◌then◌else◌, List, [], ◌∷◌, ◌++◌, map, length, slice_get, get_or, IsSome, Option, Some, None}
+use Rattle.std.specs.Prelude.{◌≡◌, ℕ, zero, suc, ◌+◌, nat_eq, Bool, true, false, if◌then◌else◌, List, [], ◌∷◌, length, slice_get, IsSome, Option, Some, None}
 use Rattle.std.specs.List.{AllByRecursion, find}
 use Rattle.std.proofs.Common.{refl, sym, ap, ap₂, ◌∙◌, ⊎_elim, subst, arith}
 use Rattle.zl_value.specs.Fraction.{Fraction, add, mul, fits}
@@ -8,7 +8,7 @@ use Rattle.zl_value.specs.Times.{nought, is_same}
 use Rattle.zl_value.specs.Instants.{Step, Left, latest_inputs, steps_at}
 use Rattle.zl_value.specs.Runs.{StepAfter, LeftAfter}
 use Rattle.zl_value.specs.Script.{IsSetFor, IsLineFor, IsScriptFor}
-use Rattle.zl_value.specs.Stops.{line_at, line_for, set_by, sets_of, inputs_after}
+use Rattle.zl_value.specs.Stops.{line_at, line_for, set_by, sets_of}
 use Rattle.zl_value.specs.System.{Motion, increments, arrivals, move_tests}
 use Rattle.zl_value.specs.Widths.{Tested, first_wide}
 use Rattle.zl_value.specs.declared.arith.Arith.TheVariants.{Range}
@@ -20,7 +20,7 @@ use Rattle.zl_value.specs.declared.script.Script.{Script}
 use Rattle.zl_value.specs.declared.script.ScriptLine.{ScriptLine}
 use Rattle.zl_value.specs.declared.script.Set.{Set}
 use Rattle.zl_meaning.specs.FlatForm.{FlatForm}
-use Rattle.zl_meaning.specs.State.{State, AtControl, AtReset, AtLater, AtEntry, AtRunning, AtStrong, AtWeak, AtPlace, AtUsed, AtValue, state_in, nothing, is_active}
+use Rattle.zl_meaning.specs.State.{State, AtControl, AtReset, AtLater, AtEntry, AtRunning, AtStrong, AtWeak, AtPlace, AtUsed, AtValue, state_in, nothing}
 use Rattle.zl_meaning.specs.History.{Instant, History, state_of, last_active}
 use Rattle.zl_meaning.specs.Places.{moved}
 use Rattle.zl_meaning.specs.Slopes.{derivative_by, motion, motion_by, motions}
@@ -43,7 +43,7 @@ use Rattle.zl_meaning.proofs.GradesKept.Typed.{of_same}
 use Rattle.zl_meaning.proofs.GradesKept.UsesSay.{slope-stands}
 use Rattle.zl_normal.specs.MainBlock.{IsMain}
 use Rattle.zl_normal.specs.Starts.{HasNarrowDerivatives}
-use Rattle.zl_premises.proofs.Widths.{IsNarrow, AllNarrow, NarrowInputs, MovesNarrow, narrow_literal, narrow_if, all_narrow, main_active}
+use Rattle.zl_premises.proofs.Widths.{IsNarrow, AllNarrow, NarrowInputs, narrow_literal, narrow_if, all_narrow, main_active}
 
 abbrev pub NarrowHistory : History → Type 0
 NarrowHistory [] = Unit {0}

@@ -15,7 +15,7 @@ use Rattle.zl_value.specs.declared.op.Op.{Op}
 use Rattle.zl_meaning.specs.FlatForm.{FlatForm}
 use Rattle.zl_meaning.specs.State.{Node, State, AtControl, AtReset, AtLater, AtEntry, AtRunning, AtStrong, AtWeak, AtPlace, AtUsed, AtValue, Active, is_active, if_used, value_in}
 use Rattle.zl_meaning.specs.Moment.{Moment, is_fresh, decide}
-use Rattle.zl_meaning.specs.History.{Instant, History, state_of}
+use Rattle.zl_meaning.specs.History.{Instant, History}
 use Rattle.zl_meaning.specs.Places.{has_blank_start, started, value_before, last_of, arm_value, reset_value, moved, der_value, defined, is_present, place_of}
 use Rattle.zl_meaning.specs.Occurrences.{gathered, given, applied, branch, any_holds, fired_answer, answer, value_of}
 use Rattle.zl_meaning.specs.Equation.{equation}

@@ -1,4 +1,6 @@
+pub mod Guards
 pub mod Lasts
 pub mod Moving
 pub mod Narrow
 pub mod Starting
+pub mod Whole

@@ -1,8 +1,10 @@
 //! Laws of the definitions. Each is a function without a body, whose contract is the law.
+ghost use Rattle.zl_premises.specs.Guards.{RanksGiveGuardRanks};
 ghost use Rattle.zl_premises.specs.Lasts.{LastsAreKept};
 ghost use Rattle.zl_premises.specs.Moving.{TableMoves, GradesKeepMoving};
 ghost use Rattle.zl_premises.specs.Narrow.{DerivativesAreNarrow};
 ghost use Rattle.zl_premises.specs.Starting.{GradesStartRight};
+ghost use Rattle.zl_premises.specs.Whole.{GradesKeepFlows, MainFormsHavePremises};
 
 /// By the table of grades what moves by a `der` doesn't stand still.
 pub fn table_moves()
@@ -27,4 +29,19 @@ pub fn lasts_are_kept()
 /// In runs of the main block alone each derivative that is evaluated is a number in the width, if it has a value.
 pub fn derivatives_are_narrow()
     ensures { DerivativesAreNarrow }
+{}
+
+/// From ranks of places and blocks there are ranks of entries in which whether an occurrence is evaluated is below its value.
+pub fn ranks_give_guard_ranks()
+    ensures { RanksGiveGuardRanks }
+{}
+
+/// A form of the main block alone whose grades are allowed keeps its flows.
+pub fn grades_keep_flows()
+    ensures { GradesKeepFlows }
+{}
+
+/// Such a form has what the law of normal forms asks of it.
+pub fn main_forms_have_premises()
+    ensures { MainFormsHavePremises }
 {}
