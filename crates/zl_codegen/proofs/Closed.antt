@@ -20,7 +20,7 @@ use Rattle.zl_codegen.proofs.Listed.{within_from}
 use Rattle.zl_codegen.proofs.MarkTests.{marked_is, length-marked}
 use Rattle.zl_codegen.proofs.Ranked.{read_there}
 use Rattle.zl_codegen.proofs.Solving.{true_or, both_ways, among_at, at_among}
-use Rattle.zl_codegen.proofs.Solved.{order_has}
+use Rattle.zl_codegen.proofs.Places.{order_has}
 
 -- where a number stands first
 first_at : (xs : List ℕ) (j : ℕ) → among j xs ≡ true → (i : ℕ) × (slice_get xs i ≡ Some j) × ((h : ℕ) → h < i → slice_get xs h ≡ Some j → ⊥)
@@ -43,7 +43,7 @@ module _ (k : KernelForm) (list : List ℕ) (well : IsWellFormed k) (order : IsO
       by true = length-marked (reads_of (slice_get k.wires n)) marks
       by false = refl
 
-  long_all : (l : List ℕ) → length (needed k.wires out l begun) ≡ length k.wires
+  pub long_all : (l : List ℕ) → length (needed k.wires out l begun) ≡ length k.wires
   long_all [] = long
   long_all (n ∷ l) = long_spread n (needed k.wires out l begun) ∙ long_all l
 
@@ -56,7 +56,7 @@ module _ (k : KernelForm) (list : List ℕ) (well : IsWellFormed k) (order : IsO
   or_left false b is = absurd cc
 
   -- what is marked stays marked
-  grows : (n j : ℕ) (marks : List Bool) → j < length marks → is_marked marks j ≡ true → is_marked (spread k.wires out n marks) j ≡ true
+  pub grows : (n j : ℕ) (marks : List Bool) → j < length marks → is_marked marks j ≡ true → is_marked (spread k.wires out n marks) j ≡ true
   grows n j marks less is = by (is_taken marks out n)
     where
       by : (t : Bool) → is_marked (if t then marked (reads_of (slice_get k.wires n)) marks else marks) j ≡ true
@@ -122,7 +122,7 @@ module _ (k : KernelForm) (list : List ℕ) (well : IsWellFormed k) (order : IsO
       closed_from 0 list (λ i x e. (let q : 0 + i ≡ i = omega arith in ap (λ p. slice_get list p) q) ∙ e) found.0 n j wire found.1 (λ h less e. found.2 h (let q : h < found.0 = omega arith in q) e) at has is
 
 -- as many marks as wires
-long_roots : (k : KernelForm) (mode : Mode) → length (roots k mode) ≡ length k.wires
+pub long_roots : (k : KernelForm) (mode : Mode) → length (roots k mode) ≡ length k.wires
 long_roots k mode = by mode
   where
     none : length (replicate (length k.wires) false) ≡ length k.wires

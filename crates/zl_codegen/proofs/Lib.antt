@@ -7,6 +7,11 @@ pub mod MarkTests
 pub mod Modes
 pub mod Nested
 pub mod Ranked
+pub mod Least
+pub mod Places
+pub mod Reports
+pub mod OneNeed
+pub mod AnyOrder
 pub mod Solved
 pub mod Solving
 pub mod Typed

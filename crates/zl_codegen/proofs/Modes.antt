@@ -1,6 +1,6 @@
 -- How a method goes on inside of guards: it runs where all of them hold, and passes over everything else.
 use Rattle.std.specs.Prelude.{◌≡◌, ℕ, zero, suc, nat_eq, Bool, true, false, ◌&&◌, if◌then◌else◌, List, [], ◌∷◌, Option, Some, None}
-use Rattle.std.specs.List.{list_all}
+use Rattle.std.specs.List.{list_all, AllByRecursion}
 use Rattle.std.proofs.Common.{refl, ap, ◌∙◌}
 use Rattle.std.proofs.lemmas.Bool.{eqb-true}
 use Rattle.zl_value.specs.Times.{holds}
@@ -139,3 +139,8 @@ module _ (g : Given) where
   passed (ToFi (suc i)) idle stepping n wire is.Step rest d = refl
   passed (ToFi (suc i)) idle stepping n wire (is.Op op ns) rest d = refl
   passed (ToFi (suc i)) idle stepping n wire (is.If c x y) rest d = refl
+
+-- the same registers, as far as guards are read
+pub mode_same : (a b : Cells) (P : ℕ → Type 0) → ((j : ℕ) → P j → cell a j ≡ cell b j) → (guards : List ℕ) (mode : Mode) → AllByRecursion P guards → mode_in a guards mode ≡ mode_in b guards mode
+mode_same a b P same [] mode all = refl
+mode_same a b P same (j ∷ guards) mode all = ap (λ v. mode_in a guards (inside_of mode v)) (same j all.0) ∙ mode_same a b P same guards (inside_of mode (cell b j)) all.1

@@ -1,60 +1,36 @@
 -- A method solves its wires, whatever their order.
-use Rattle.std.specs.Prelude.{◌≡◌, ℕ, zero, suc, ◌<◌, ◌+◌, Bool, true, false, not, ◌&&◌, ◌||◌, if◌then◌else◌, List, [], ◌∷◌, ◌++◌, length, get_or, replicate, slice_get, Option, Some, None}
+use Rattle.std.specs.Prelude.{◌≡◌, ℕ, zero, suc, ◌<◌, ◌+◌, Bool, true, false, not, ◌&&◌, ◌||◌, if◌then◌else◌, List, [], ◌∷◌, ◌++◌, length, replicate, slice_get, Option, Some, None}
 use Rattle.std.specs.List.{list_all, AllByRecursion}
 use Rattle.std.specs.Option.{option_and_then}
 use Rattle.std.proofs.Common.{refl, sym, ap, ap₂, ◌∙◌, arith, subst, inl, inr}
 use Rattle.std.proofs.lemmas.Bool.{cases_eq, eq-eqb, ne_eqb, and_parts, and_from}
 use Rattle.std.proofs.lemmas.List.{length-replicate}
-use Rattle.std.proofs.lemmas.List.Sorted.{Contains-permutation, All-permutation}
-use Rattle.std.proofs.lemmas.List.Elements.{All-get_or, All-from_get_or}
 use Rattle.zl_value.specs.Lists.{Has, among}
 use Rattle.zl_value.specs.Times.{holds}
 use Rattle.zl_value.specs.Operators.{Nothing, answered}
 use Rattle.zl_value.specs.declared.value.Value.{Value}
 use Rattle.zl_kernel.specs.KernelForm.{KernelForm}
-use Rattle.zl_kernel.specs.FlowWires.{listed_in, operands, reads, is_of_flows}
+use Rattle.zl_kernel.specs.FlowWires.{listed_in, reads, is_of_flows}
 use Rattle.zl_kernel.specs.WellFormed.{IsWellFormed}
-use Rattle.zl_kernel.specs.Wires.{Registers, held, Mode as ModeOf, AtStep, AtLeft, InFlow, is_at_step, is_solved, is_open, answer as answer_in, wire_value, Moment, turn}
+use Rattle.zl_kernel.specs.Wires.{Registers, held, Mode as ModeOf, AtStep, AtLeft, InFlow, is_at_step, is_solved, is_open, answer as answer_in, wire_answer, wire_value, Moment, turn}
 use Rattle.zl_kernel.specs.declared.wire.Wire.{Wire}
 use Rattle.zl_kernel.proofs.WireReads.{value_same}
 use Rattle.zl_kernel.proofs.OneSolution.{solved_at}
-use Rattle.zl_code.specs.Method.{Cells, cell, Given, Doing, Mode, Runs, run}
+use Rattle.zl_code.specs.Method.{cell, Given, Doing, Mode, Runs, run, fresh}
 use Rattle.zl_code.specs.declared.stmt.Stmt.{Stmt}
-use Rattle.zl_codegen.specs.Orders.{IsOrder, numbers}
+use Rattle.zl_codegen.specs.Orders.{IsOrder}
 use Rattle.zl_codegen.specs.Guards.{guard_of, guards_up, chain, change}
 use Rattle.zl_codegen.specs.Needs.{is_marked, is_taken, left_out, flow_wires}
 use Rattle.zl_codegen.specs.Statements.{define, define_in, body}
 use Rattle.zl_codegen.specs.Laws.{IsGiven}
-use Rattle.zl_codegen.proofs.Listed.{get-listed, length-listed, get_from, get_to, within_from}
+use Rattle.zl_codegen.proofs.Listed.{get-listed, within_from}
 use Rattle.zl_codegen.proofs.MarkLists.{append_none}
-use Rattle.zl_codegen.proofs.Ranked.{has_cases, has_none, read_there}
-use Rattle.zl_codegen.proofs.Modes.{inside_of, mode_in, is_running, running-in, runs_if, run_close, run_change, passed}
-use Rattle.zl_codegen.proofs.Solving.{cut_all, cut_each, true_or, among_at, at_among, front, middle, moved_on, among-last, open_from, IsStep, kept_is, does}
-
--- a guard is among what a wire reads
-guard_read : (wire : Wire) (j : ℕ) → Has (listed_in wire.guard) j → Has (reads wire) j
-guard_read wire j has = by wire.guard has
-  where
-    by : (guard : Option ℕ) → Has (listed_in guard) j → Has (listed_in guard ++ operands wire.def) j
-    by None has = absurd (has_none j has)
-    by (Some g) has = has_cases (λ i. Has (g ∷ operands wire.def) i) g [] j (record { index = 0; is = refl }) (λ none. absurd (has_none j none)) has
-
-order_within : (k : KernelForm) (list : List ℕ) → IsOrder k list → (i n : ℕ) → slice_get list i ≡ Some n → n < length k.wires
-order_within k list order i n at =
-    let less = within_from list i n at in
-    subst (λ j. j < length k.wires) (get_from list i n n at)
-    (All-get_or (λ j. j < length k.wires) list i n less (All-permutation (λ j. j < length k.wires) (numbers k) list order.permutation (All-from_get_or (λ j. j < length k.wires) (numbers k) 0 below)))
-  where
-    below : (j : ℕ) → j < length (numbers k) → get_or (numbers k) j 0 < length k.wires
-    below j less =
-        let few : j < length k.wires = subst (λ l. j < l) (length-listed (length k.wires) 0 (λ n. n)) less in
-        let same : get_or (numbers k) j 0 ≡ 0 + j = get-listed (length k.wires) 0 (λ n. n) 0 j few in
-        subst (λ x. x < length k.wires) (sym same) (omega arith)
-
-pub order_has : (k : KernelForm) (list : List ℕ) → IsOrder k list → (n : ℕ) → n < length k.wires → among n list ≡ true
-order_has k list order n less =
-    let c = Contains-permutation (numbers k) list n order.permutation (n, subst (λ m. n < m) (sym (length-listed (length k.wires) 0 (λ n. n))) less, get-listed (length k.wires) 0 (λ n. n) n n less ∙ (let e : 0 + n ≡ n = omega arith in e)) in
-    among_at list c.0 n (get_to list c.0 n c.1 ∙ ap Some c.2)
+use Rattle.zl_codegen.proofs.Ranked.{read_there}
+use Rattle.zl_codegen.proofs.Modes.{mode_in, is_running, running-in, runs_if, run_close, run_change, passed, mode_same}
+use Rattle.zl_codegen.proofs.Solving.{cut_all, cut_each, true_or, among_at, at_among, front, middle, moved_on, among-last, open_from, IsStep, kept_is, met, report, does}
+use Rattle.zl_codegen.proofs.Least.{over, over_last}
+use Rattle.zl_codegen.proofs.Places.{wire_at, guard_read, order_within, order_has}
+use Rattle.zl_codegen.proofs.Reports.{operand_read, report_same, report_none, fault_in, fault_at}
 
 module _ (k : KernelForm) (list : List ℕ) (well : IsWellFormed k) (order : IsOrder k list) (m : Moment) (r : Registers) (solves : r ≡ turn k m r) (g : Given) (given : IsGiven k m g) (marks : List Bool) (spread : (n j : ℕ) (wire : Wire) → slice_get k.wires n ≡ Some wire → is_taken marks (left_out k m.mode) n ≡ true → Has (reads wire) j → is_marked marks j ≡ true) where
   abbrev out : List Bool
@@ -85,23 +61,13 @@ module _ (k : KernelForm) (list : List ℕ) (well : IsWellFormed k) (order : IsO
   record Are (done : List ℕ) (d : Doing) : Type 0 where
     long : length d.regs ≡ length k.wires
     each : (n : ℕ) → n < length k.wires → cell d.regs n ≡ now done n
-
-  wire_at : (n : ℕ) → n < length k.wires → (wire : Wire) × (slice_get k.wires n ≡ Some wire)
-  wire_at n less = by (slice_get k.wires n) refl
-    where
-      by : (w : Option Wire) → slice_get k.wires n ≡ w → (wire : Wire) × (slice_get k.wires n ≡ Some wire)
-      by None e = absurd (none_at k.wires n less e)
-        where
-          none_at : (ws : List Wire) (i : ℕ) → i < length ws → slice_get ws i ≡ None → ⊥
-          none_at [] i l e = omega arith
-          none_at (w ∷ ws) zero l e = cc
-          none_at (w ∷ ws) (suc i) l e = none_at ws i (omega arith) e
-      by (Some w) e = (w, e)
+    mems : d.mems ≡ g.mems
+    found : d.found ≡ over (fault_at k m r marks) None done
 
   -- a wire that is solved nowhere is empty
   unsolved : (n : ℕ) → n < length k.wires → is_marked out n ≡ true → held r n ≡ None
   unsolved n less is =
-      let w = wire_at n less in
+      let w = wire_at k n less in
       let never : is_solved k m.mode n ≡ false = sym (solved_is n less) ∙ ap not is in
       value_is n w.0 w.1 ∙ ap (λ b. answered (if b && is_open (held r) w.0.guard then answer_in m (held r) w.0.def else Nothing)) never
 
@@ -176,7 +142,7 @@ module _ (k : KernelForm) (list : List ℕ) (well : IsWellFormed k) (order : IsO
       up (suc room) None ready opened = refl
       up (suc room) (Some j) ready opened =
           let is = ready j (record { index = 0; is = refl }) in
-          let w = wire_at j is.there in
+          let w = wire_at k j is.there in
           let more = above_ready j w.0 w.1 is opened in
           and_from (hold j) (list_all hold (guards_up k.wires room (guard_of k.wires j))) opened
           (ap (λ o. list_all hold (guards_up k.wires room o)) (guard_at j w.0 w.1) ∙ up room w.0.guard more.0 (open_same w.0.guard more.0 ∙ more.1))
@@ -185,7 +151,7 @@ module _ (k : KernelForm) (list : List ℕ) (well : IsWellFormed k) (order : IsO
       chain_opens None ready = refl
       chain_opens (Some j) ready =
           let is = ready j (record { index = 0; is = refl }) in
-          let w = wire_at j is.there in
+          let w = wire_at k j is.there in
           cut_all hold j (guards_up k.wires 8 (guard_of k.wires j)) (λ opened. let more = above_ready j w.0 w.1 is opened in ap (λ o. list_all hold (guards_up k.wires 8 o)) (guard_at j w.0 w.1) ∙ up 8 w.0.guard more.0 (open_same w.0.guard more.0 ∙ more.1))
 
     -- the guards of a chain are passed
@@ -194,7 +160,7 @@ module _ (k : KernelForm) (list : List ℕ) (well : IsWellFormed k) (order : IsO
     ups_in (suc room) None in' = tt
     ups_in (suc room) (Some j) in' =
         let is = in' j (record { index = 0; is = refl }) in
-        let w = wire_at j is.1 in (
+        let w = wire_at k j is.1 in (
           is,
           subst (λ o. AllByRecursion (λ i. (among i done ≡ true) × (i < length k.wires)) (guards_up k.wires room o)) (sym (ap (λ v. option_and_then (λ (x : Wire). x.guard) v) w.1))
               (ups_in room w.0.guard (λ i has. let read = guard_read w.0 i has in (reads_in j i w.0 is.0 w.1 read, read_there k well j i w.0 w.1 read))),
@@ -206,10 +172,6 @@ module _ (k : KernelForm) (list : List ℕ) (well : IsWellFormed k) (order : IsO
         own : (guard : Option ℕ) → ((j : ℕ) → Has (listed_in guard) j → (among j done ≡ true) × (j < length k.wires)) → AllByRecursion (λ j. (among j done ≡ true) × (j < length k.wires)) (listed_in guard)
         own None in' = tt
         own (Some j) in' = (in' j (record { index = 0; is = refl }), tt)
-
-  mode_same : (a b : Cells) (P : ℕ → Type 0) → ((j : ℕ) → P j → cell a j ≡ cell b j) → (guards : List ℕ) (mode : Mode) → AllByRecursion P guards → mode_in a guards mode ≡ mode_in b guards mode
-  mode_same a b P same [] mode all = refl
-  mode_same a b P same (j ∷ guards) mode all = ap (λ v. mode_in a guards (inside_of mode v)) (same j all.0) ∙ mode_same a b P same guards (inside_of mode (cell b j)) all.1
 
   now_empty : (done : List ℕ) (n : ℕ) → held r n ≡ None → now done n ≡ None
   now_empty done n none = by (among n done && taken n)
@@ -237,6 +199,8 @@ module _ (k : KernelForm) (list : List ℕ) (well : IsWellFormed k) (order : IsO
   skipped done n d are never = record {
     long = are.long;
     each = λ j less. are.each j less ∙ by j;
+    mems = are.mems;
+    found = are.found ∙ sym (over_last (fault_at k m r marks) None done n ∙ ap (λ t. met (over (fault_at k m r marks) None done) (if t then fault_in k m r n (slice_get k.wires n) else None)) never);
   }
     where
       by : (j : ℕ) → now done j ≡ now (done ++ n ∷ []) j
@@ -245,20 +209,26 @@ module _ (k : KernelForm) (list : List ℕ) (well : IsWellFormed k) (order : IsO
         | inr other ↦ now_other done n j other
       ]
 
-  stepped : (done : List ℕ) (n : ℕ) (d after : Doing) → Are done d → taken n ≡ true → IsStep d after n (held r n) → Are (done ++ n ∷ []) after
-  stepped done n d after are sure step = record {
+  stepped : (done : List ℕ) (n : ℕ) (d after : Doing) → Are done d → taken n ≡ true → IsStep d after n (held r n) → after.mems ≡ d.mems → after.found ≡ met d.found (fault_in k m r n (slice_get k.wires n)) → Are (done ++ n ∷ []) after
+  stepped done n d after are sure step mems found = record {
     long = step.long ∙ are.long;
     each = λ j less. elim (cases_eq j n) [
       | inl same ↦ subst (λ i. cell after.regs i ≡ now (done ++ n ∷ []) i) (sym same) (step.new ∙ sym (now_is (done ++ n ∷ []) n (last_in done n) sure))
       | inr other ↦ step.others j other ∙ are.each j less ∙ now_other done n j other
     ];
+    mems = mems ∙ are.mems;
+    found =
+        found ∙ ap (λ f. met f (fault_in k m r n (slice_get k.wires n))) are.found
+        ∙ sym (over_last (fault_at k m r marks) None done n ∙ ap (λ t. met (over (fault_at k m r marks) None done) (if t then fault_in k m r n (slice_get k.wires n) else None)) sure);
   }
 
   -- the wire does what the kernel says, or is passed over
-  record Stepped (mode : Mode) (d : Doing) (stmts rest : List Stmt) (n : ℕ) : Type 0 where
+  record Stepped (mode : Mode) (d : Doing) (stmts rest : List Stmt) (n : ℕ) (wire : Wire) : Type 0 where
     after : Doing
     runs : run g mode stmts d ≡ run g mode rest after
     step : IsStep d after n (held r n)
+    mems : after.mems ≡ d.mems
+    found : after.found ≡ met d.found (report wire wire.def (wire_answer k m (held r) n wire))
 
   module _ (done behind : List ℕ) (n : ℕ) (parts : list ≡ done ++ n ∷ behind) (d : Doing) (are : Are done d) (wire : Wire) (at : slice_get k.wires n ≡ Some wire) (sure : taken n ≡ true) where
     less : n < length k.wires
@@ -289,13 +259,30 @@ module _ (k : KernelForm) (list : List ℕ) (well : IsWellFormed k) (order : IsO
     shut_value : is_open (cell d.regs) wire.guard ≡ false → held r n ≡ None
     shut_value shut = agrees ∙ ap₂ (λ a b. answered (if a && b then answer_in m (cell d.regs) wire.def else Nothing)) solved shut
 
-    one_wire : (rest : List Stmt) → Stepped (mode_in d.regs (chain k.wires wire.guard) Runs) d (define (is_at_step m.mode) n wire wire.def rest) rest n
-    one_wire rest = true_or (is_open (cell d.regs) wire.guard) (Stepped mode d (define (is_at_step m.mode) n wire wire.def rest) rest n) opened shut
+    holds_same : (j : ℕ) → Has (reads wire) j → cell d.regs j ≡ held r j
+    holds_same j has = let is = read_ready j has in same_at done d are j is.there is.passed is.marked
+
+    guard_same : is_open (cell d.regs) wire.guard ≡ is_open (held r) wire.guard
+    guard_same = open_same done (n ∷ behind) parts d are wire.guard guard_ready
+
+    -- the wire's fault
+    report_open : is_open (cell d.regs) wire.guard ≡ true → report wire wire.def (answer_in m (cell d.regs) wire.def) ≡ report wire wire.def (wire_answer k m (held r) n wire)
+    report_open opened =
+        report_same (cell d.regs) (held r) m wire wire.def (λ j has. holds_same j (operand_read wire j has))
+        ∙ sym (ap₂ (λ a b. report wire wire.def (if a && b then answer_in m (held r) wire.def else Nothing)) solved (sym guard_same ∙ opened))
+
+    report_shut : is_open (cell d.regs) wire.guard ≡ false → None ≡ report wire wire.def (wire_answer k m (held r) n wire)
+    report_shut shut =
+        sym (report_none wire wire.def)
+        ∙ sym (ap₂ (λ a b. report wire wire.def (if a && b then answer_in m (held r) wire.def else Nothing)) solved (sym guard_same ∙ shut))
+
+    one_wire : (rest : List Stmt) → Stepped (mode_in d.regs (chain k.wires wire.guard) Runs) d (define (is_at_step m.mode) n wire wire.def rest) rest n wire
+    one_wire rest = true_or (is_open (cell d.regs) wire.guard) (Stepped mode d (define (is_at_step m.mode) n wire wire.def rest) rest n wire) opened shut
       where
         mode : Mode
         mode = mode_in d.regs (chain k.wires wire.guard) Runs
 
-        opened : is_open (cell d.regs) wire.guard ≡ true → Stepped mode d (define (is_at_step m.mode) n wire wire.def rest) rest n
+        opened : is_open (cell d.regs) wire.guard ≡ true → Stepped mode d (define (is_at_step m.mode) n wire wire.def rest) rest n wire
         opened is =
             let runs : mode ≡ Runs = runs_if mode (chained ∙ is) in
             let it = does k m g given d n wire wire.def rest at refl (subst (λ l. n < l) (sym are.long) less) (λ none. are.each n less ∙ now_empty done n (open_value is ∙ none)) in
@@ -303,13 +290,17 @@ module _ (k : KernelForm) (list : List ℕ) (well : IsWellFormed k) (order : IsO
               after = it.after;
               runs = ap (λ x. run g x (define (is_at_step m.mode) n wire wire.def rest) d) runs ∙ it.runs ∙ sym (ap (λ x. run g x rest it.after) runs);
               step = subst (λ v. IsStep d it.after n v) (sym (open_value is)) it.step;
+              mems = it.mems;
+              found = it.found ∙ ap (λ f. met d.found f) (report_open is);
             }
 
-        shut : is_open (cell d.regs) wire.guard ≡ false → Stepped mode d (define (is_at_step m.mode) n wire wire.def rest) rest n
+        shut : is_open (cell d.regs) wire.guard ≡ false → Stepped mode d (define (is_at_step m.mode) n wire wire.def rest) rest n wire
         shut is = record {
           after = d;
           runs = passed g mode (chained ∙ is) (is_at_step m.mode) n wire wire.def rest d;
           step = kept_is d n (held r n) (are.each n less ∙ now_empty done n (shut_value is) ∙ sym (shut_value is));
+          mems = refl;
+          found = ap (λ f. met d.found f) (report_shut is);
         }
 
     -- what guards the wire stays as it is
@@ -337,11 +328,11 @@ module _ (k : KernelForm) (list : List ℕ) (well : IsWellFormed k) (order : IsO
   -- a wire that the method solves, and then the rest
   one_more : (done behind : List ℕ) (n : ℕ) (parts : list ≡ done ++ n ∷ behind) (opened : List ℕ) (rest : List Stmt) (d : Doing) (are : Are done d) → taken n ≡ true → ((after : Doing) → Are (done ++ n ∷ []) after → Ran (chain k.wires (guard_of k.wires n)) behind rest after) → Ran opened (n ∷ behind) rest d
   one_more done behind n parts opened rest d are is next_ran =
-      let w = wire_at n (in_order done behind n parts) in
+      let w = wire_at k n (in_order done behind n parts) in
       let guard : guard_of k.wires n ≡ w.0.guard = ap (λ v. option_and_then (λ (x : Wire). x.guard) v) w.1 in
       let left : List Stmt = body k.wires (is_at_step m.mode) marks out (chain k.wires (guard_of k.wires n)) behind rest in
       let one = one_wire done behind n parts d are w.0 w.1 is left in
-      let it = next_ran one.after (stepped done n d one.after are is one.step) in
+      let it = next_ran one.after (stepped done n d one.after are is one.step one.mems (one.found ∙ ap (λ v. met d.found (fault_in k m r n v)) (sym w.1))) in
       record {
         after = it.after;
         runs =
@@ -369,8 +360,8 @@ module _ (k : KernelForm) (list : List ℕ) (well : IsWellFormed k) (order : IsO
       (λ is. one_more done behind n parts opened rest d are is (λ after now. all_wires (done ++ n ∷ []) behind (parts ∙ moved_on done n behind) (chain k.wires (guard_of k.wires n)) rest after now))
       (λ is. none_more done behind n opened rest d is (all_wires (done ++ n ∷ []) behind (parts ∙ moved_on done n behind) opened rest d (skipped done n d are is)))
 
-  blank : (d : Doing) → d.regs ≡ replicate (length k.wires) None → Are [] d
-  blank d is = record { long = ap (λ rs. length rs) is ∙ length-replicate (length k.wires) None; each = λ n less. ap (λ rs. cell rs n) is ∙ nothing (length k.wires) n }
+  blank : Are [] (fresh (length k.wires) g)
+  blank = record { long = length-replicate (length k.wires) None; each = λ n less. nothing (length k.wires) n; mems = refl; found = refl }
     where
       nothing : (count n : ℕ) → cell (replicate count None) n ≡ None
       nothing zero n = refl
@@ -378,7 +369,22 @@ module _ (k : KernelForm) (list : List ℕ) (well : IsWellFormed k) (order : IsO
       nothing (suc count) (suc n) = nothing count n
 
   -- in the end all is passed
-  pub solved_all : (d : Doing) → d.regs ≡ replicate (length k.wires) None → (rest : List Stmt) → (after : Doing) × (run g Runs (body k.wires (is_at_step m.mode) marks out [] list rest) d ≡ run g Runs rest after) × ((n : ℕ) → n < length k.wires → cell after.regs n ≡ (if taken n then held r n else None))
-  solved_all d is rest =
-      let it = all_wires [] list refl [] rest d (blank d is) in
-      (it.after, it.runs, λ n less. it.are.each n less ∙ ap (λ b. if b && taken n then held r n else None) (order_has k list order n less))
+  pub record Ends (rest : List Stmt) : Type 0 where
+    pub after : Doing
+    pub runs : run g Runs (body k.wires (is_at_step m.mode) marks out [] list rest) (fresh (length k.wires) g) ≡ run g Runs rest after
+    pub long : length after.regs ≡ length k.wires
+    pub regs : (n : ℕ) → n < length k.wires → cell after.regs n ≡ (if taken n then held r n else None)
+    pub mems : after.mems ≡ g.mems
+    pub found : after.found ≡ over (fault_at k m r marks) None list
+
+  pub solved_all : (rest : List Stmt) → Ends rest
+  solved_all rest =
+      let it = all_wires [] list refl [] rest (fresh (length k.wires) g) blank in
+      record {
+        after = it.after;
+        runs = it.runs;
+        long = it.are.long;
+        regs = λ n less. it.are.each n less ∙ ap (λ b. if b && taken n then held r n else None) (order_has k list order n less);
+        mems = it.are.mems;
+        found = it.are.found;
+      }

@@ -10,7 +10,7 @@ use Rattle.std.proofs.lemmas.List.Elements.{All-from_recursion, recursion_from_A
 use Rattle.std.proofs.lemmas.List.Sorted.{IsPermutation-reverse, IsPermutation-sym, All-permutation}
 use Rattle.zl_value.specs.Lists.{among}
 use Rattle.zl_value.specs.Times.{holds}
-use Rattle.zl_value.specs.Operators.{Answer, Nothing, answered, operate}
+use Rattle.zl_value.specs.Operators.{Answer, Gives, Faults, Nothing, answered, operate}
 use Rattle.zl_value.specs.declared.value.Value.{Value}
 use Rattle.zl_value.specs.declared.value.Value.TheVariants.{B, I, F}
 use Rattle.zl_kernel.specs.KernelForm.{KernelForm}
@@ -19,7 +19,9 @@ use Rattle.zl_kernel.specs.Wires.{held, is_at_step, given as given_as, branch, g
 use Rattle.zl_kernel.specs.declared.wire.Def.{Def}
 use Rattle.zl_kernel.specs.declared.wire.Def.TheVariants as is
 use Rattle.zl_kernel.specs.declared.wire.Wire.{Wire}
-use Rattle.zl_code.specs.Method.{Cells, cell, Given, Doing, Runs, gathered, run, doing, by_values, choose}
+use Rattle.zl_code.specs.Method.{Cells, cell, Given, Doing, Runs, gathered, run, doing, by_values, choose, least, noted, answer}
+use Rattle.zl_code.specs.declared.stmt.OpFault.{OpFault}
+use Rattle.zl_code.specs.declared.stmt.Found.{Found}
 use Rattle.zl_code.specs.declared.stmt.Stmt.{Stmt}
 use Rattle.zl_code.specs.declared.stmt.Stmt.TheVariants.{Get, Op as Apply, If, Else, Fi}
 use Rattle.zl_codegen.specs.Guards.{cut}
@@ -148,38 +150,65 @@ put_is d n v w after less is same = record {
 pub kept_is : (d : Doing) (n : ℕ) (w : Option Value) → cell d.regs n ≡ w → IsStep d d n w
 kept_is d n w is = record { long = refl; new = is; others = λ j other. refl }
 
+-- the fault that an operator's answer is, with its number
+abbrev pub reported : Answer → Option OpFault → Option Found
+reported a None = None
+reported (Faults kind) (Some at) = Some (record { ord = at.ord; fault = record { kind = kind; at = at.at } })
+reported _ (Some at) = None
+
+-- one fault more is met, or none
+abbrev pub met : Option Found → Option Found → Option Found
+met found None = found
+met found (Some new) = least found new
+
+pub noted_is : (found : Option Found) (a : Answer) (at : Option OpFault) → noted found a at ≡ met found (reported a at)
+noted_is found a None = refl
+noted_is found (Gives v) (Some at) = refl
+noted_is found (Faults kind) (Some at) = refl
+noted_is found Nothing (Some at) = refl
+
+-- the fault that a wire has with this answer
+abbrev pub report : Wire → Def → Answer → Option Found
+report wire (is.Op op args) a = reported a (fault_of wire op)
+report wire _ a = None
+
+abbrev pub finds : Option Found → Wire → Def → Answer → Option Found
+finds found wire def a = met found (report wire def a)
+
 -- the statements of a wire do what its definition says
-pub record Does (g : Given) (d : Doing) (stmts rest : List Stmt) (n : ℕ) (v : Option Value) : Type 0 where
+pub record Does (g : Given) (d : Doing) (stmts rest : List Stmt) (n : ℕ) (v : Option Value) (f : Option Found) : Type 0 where
   pub after : Doing
   pub runs : run g Runs stmts d ≡ run g Runs rest after
   pub step : IsStep d after n v
+  pub mems : after.mems ≡ d.mems
+  pub found : after.found ≡ f
 
-if_does : (g : Given) (d : Doing) (n c x y : ℕ) (rest : List Stmt) (v : Option Value) → cell d.regs c ≡ v → n < length d.regs → (branch v (cell d.regs x) (cell d.regs y) ≡ None → cell d.regs n ≡ None) → Does g d (If c ∷ Get n x ∷ Else ∷ Get n y ∷ Fi ∷ rest) rest n (branch v (cell d.regs x) (cell d.regs y))
-if_does g d n c x y rest None is less none = record { after = d; runs = ap (λ v. run g (choose v) (Get n x ∷ Else ∷ Get n y ∷ Fi ∷ rest) d) is; step = kept_is d n None (none refl) }
-if_does g d n c x y rest (Some (B true)) is less none = record { after = doing g (Get n x) d; runs = ap (λ v. run g (choose v) (Get n x ∷ Else ∷ Get n y ∷ Fi ∷ rest) d) is; step = put_is d n (cell d.regs x) _ _ less refl refl }
-if_does g d n c x y rest (Some (B false)) is less none = record { after = doing g (Get n y) d; runs = ap (λ v. run g (choose v) (Get n x ∷ Else ∷ Get n y ∷ Fi ∷ rest) d) is; step = put_is d n (cell d.regs y) _ _ less refl refl }
-if_does g d n c x y rest (Some (I i)) is less none = record { after = d; runs = ap (λ v. run g (choose v) (Get n x ∷ Else ∷ Get n y ∷ Fi ∷ rest) d) is; step = kept_is d n None (none refl) }
-if_does g d n c x y rest (Some (F f)) is less none = record { after = d; runs = ap (λ v. run g (choose v) (Get n x ∷ Else ∷ Get n y ∷ Fi ∷ rest) d) is; step = kept_is d n None (none refl) }
+if_does : (g : Given) (d : Doing) (n c x y : ℕ) (rest : List Stmt) (v : Option Value) → cell d.regs c ≡ v → n < length d.regs → (branch v (cell d.regs x) (cell d.regs y) ≡ None → cell d.regs n ≡ None) → Does g d (If c ∷ Get n x ∷ Else ∷ Get n y ∷ Fi ∷ rest) rest n (branch v (cell d.regs x) (cell d.regs y)) d.found
+if_does g d n c x y rest None is less none = record { after = d; runs = ap (λ v. run g (choose v) (Get n x ∷ Else ∷ Get n y ∷ Fi ∷ rest) d) is; step = kept_is d n None (none refl); mems = refl; found = refl }
+if_does g d n c x y rest (Some (B true)) is less none = record { after = doing g (Get n x) d; runs = ap (λ v. run g (choose v) (Get n x ∷ Else ∷ Get n y ∷ Fi ∷ rest) d) is; step = put_is d n (cell d.regs x) _ _ less refl refl; mems = refl; found = refl }
+if_does g d n c x y rest (Some (B false)) is less none = record { after = doing g (Get n y) d; runs = ap (λ v. run g (choose v) (Get n x ∷ Else ∷ Get n y ∷ Fi ∷ rest) d) is; step = put_is d n (cell d.regs y) _ _ less refl refl; mems = refl; found = refl }
+if_does g d n c x y rest (Some (I i)) is less none = record { after = d; runs = ap (λ v. run g (choose v) (Get n x ∷ Else ∷ Get n y ∷ Fi ∷ rest) d) is; step = kept_is d n None (none refl); mems = refl; found = refl }
+if_does g d n c x y rest (Some (F f)) is less none = record { after = d; runs = ap (λ v. run g (choose v) (Get n x ∷ Else ∷ Get n y ∷ Fi ∷ rest) d) is; step = kept_is d n None (none refl); mems = refl; found = refl }
 
 answered_given : (v : Option Value) → answered (given_as v) ≡ v
 answered_given None = refl
 answered_given (Some v) = refl
 
 module _ (k : KernelForm) (m : Moment) (g : Given) (given : IsGiven k m g) where
-  pub does : (d : Doing) (n : ℕ) (wire : Wire) (def : Def) (rest : List Stmt) → slice_get k.wires n ≡ Some wire → wire.def ≡ def → n < length d.regs → (answered (answer_in m (cell d.regs) def) ≡ None → cell d.regs n ≡ None) → Does g d (define (is_at_step m.mode) n wire def rest) rest n (answered (answer_in m (cell d.regs) def))
-  does d n wire (is.Lit v) rest at of less none = record { after = record { regs = set d.regs n (Some v); mems = d.mems; found = d.found }; runs = refl; step = put_is d n (Some v) _ _ less refl refl }
-  does d n wire (is.Copy j) rest at of less none = record { after = record { regs = set d.regs n (cell d.regs j); mems = d.mems; found = d.found }; runs = refl; step = put_is d n (cell d.regs j) _ _ less refl (sym (answered_given (cell d.regs j))) }
-  does d n wire (is.Mem j) rest at of less none = record { after = record { regs = set d.regs n (cell g.mems j); mems = d.mems; found = d.found }; runs = refl; step = put_is d n (cell g.mems j) _ _ less refl (given.mems n j wire at of ∙ sym (answered_given (held m.memories j))) }
-  does d n wire (is.In i) rest at of less none = record { after = record { regs = set d.regs n (cell g.inputs i); mems = d.mems; found = d.found }; runs = refl; step = put_is d n (cell g.inputs i) _ _ less refl (ap (λ cs. cell cs i) given.inputs ∙ sym (answered_given (held m.inputs i))) }
+  pub does : (d : Doing) (n : ℕ) (wire : Wire) (def : Def) (rest : List Stmt) → slice_get k.wires n ≡ Some wire → wire.def ≡ def → n < length d.regs → (answered (answer_in m (cell d.regs) def) ≡ None → cell d.regs n ≡ None) → Does g d (define (is_at_step m.mode) n wire def rest) rest n (answered (answer_in m (cell d.regs) def)) (finds d.found wire def (answer_in m (cell d.regs) def))
+  does d n wire (is.Lit v) rest at of less none = record { after = record { regs = set d.regs n (Some v); mems = d.mems; found = d.found }; runs = refl; step = put_is d n (Some v) _ _ less refl refl; mems = refl; found = refl }
+  does d n wire (is.Copy j) rest at of less none = record { after = record { regs = set d.regs n (cell d.regs j); mems = d.mems; found = d.found }; runs = refl; step = put_is d n (cell d.regs j) _ _ less refl (sym (answered_given (cell d.regs j))); mems = refl; found = refl }
+  does d n wire (is.Mem j) rest at of less none = record { after = record { regs = set d.regs n (cell g.mems j); mems = d.mems; found = d.found }; runs = refl; step = put_is d n (cell g.mems j) _ _ less refl (given.mems n j wire at of ∙ sym (answered_given (held m.memories j))); mems = refl; found = refl }
+  does d n wire (is.In i) rest at of less none = record { after = record { regs = set d.regs n (cell g.inputs i); mems = d.mems; found = d.found }; runs = refl; step = put_is d n (cell g.inputs i) _ _ less refl (ap (λ cs. cell cs i) given.inputs ∙ sym (answered_given (held m.inputs i))); mems = refl; found = refl }
   does d n wire (is.Event s) rest at of less none = by (is_at_step m.mode) refl
     where
-      by : (t : Bool) → is_at_step m.mode ≡ t → Does g d (define t n wire (is.Event s) rest) rest n (Some (B (t && among s m.fired)))
-      by true e = record { after = record { regs = set d.regs n (Some (B (get_or g.events s false))); mems = d.mems; found = d.found }; runs = refl; step = put_is d n (Some (B (get_or g.events s false))) _ _ less refl (ap (λ b. Some (B b)) (given.events s e)) }
-      by false e = record { after = record { regs = set d.regs n (Some (B false)); mems = d.mems; found = d.found }; runs = refl; step = put_is d n (Some (B false)) _ _ less refl refl }
-  does d n wire is.Step rest at of less none = record { after = record { regs = set d.regs n (Some (B (is_at_step m.mode))); mems = d.mems; found = d.found }; runs = refl; step = put_is d n (Some (B (is_at_step m.mode))) _ _ less refl refl }
+      by : (t : Bool) → is_at_step m.mode ≡ t → Does g d (define t n wire (is.Event s) rest) rest n (Some (B (t && among s m.fired))) d.found
+      by true e = record { after = record { regs = set d.regs n (Some (B (get_or g.events s false))); mems = d.mems; found = d.found }; runs = refl; step = put_is d n (Some (B (get_or g.events s false))) _ _ less refl (ap (λ b. Some (B b)) (given.events n s wire at of e)); mems = refl; found = refl }
+      by false e = record { after = record { regs = set d.regs n (Some (B false)); mems = d.mems; found = d.found }; runs = refl; step = put_is d n (Some (B false)) _ _ less refl refl; mems = refl; found = refl }
+  does d n wire is.Step rest at of less none = record { after = record { regs = set d.regs n (Some (B (is_at_step m.mode))); mems = d.mems; found = d.found }; runs = refl; step = put_is d n (Some (B (is_at_step m.mode))) _ _ less refl refl; mems = refl; found = refl }
   does d n wire (is.Op op ns) rest at of less none =
-      record { after = doing g (Apply n op ns (fault_of wire op)) d; runs = refl; step = put_is d n (answered (by_values (operate op) (gathered d.regs ns))) (answered (applied_in op (gathered_in (cell d.regs) ns))) (doing g (Apply n op ns (fault_of wire op)) d) less refl (ap answered (applied_is d.regs (operate op) (gathered d.regs ns) op refl ∙ ap (λ vs. applied_in op vs) (gathered_is d.regs ns))) }
+      record { after = doing g (Apply n op ns (fault_of wire op)) d; runs = refl; step = put_is d n (answered (by_values (operate op) (gathered d.regs ns))) (answered (applied_in op (gathered_in (cell d.regs) ns))) (doing g (Apply n op ns (fault_of wire op)) d) less refl (ap answered (applied_is d.regs (operate op) (gathered d.regs ns) op refl ∙ ap (λ vs. applied_in op vs) (gathered_is d.regs ns))); mems = refl; found = noted_is d.found (answer d.regs (operate op) ns) (fault_of wire op) ∙ ap (λ a. met d.found (reported a (fault_of wire op))) (applied_is d.regs (operate op) (gathered d.regs ns) op refl ∙ ap (λ vs. applied_in op vs) (gathered_is d.regs ns)) }
   does d n wire (is.If c x y) rest at of less none =
       let v = cell d.regs c in
-      subst (λ w. Does g d (If c ∷ Get n x ∷ Else ∷ Get n y ∷ Fi ∷ rest) rest n w) (sym (answered_given (branch v (cell d.regs x) (cell d.regs y))))
+      subst (λ w. Does g d (If c ∷ Get n x ∷ Else ∷ Get n y ∷ Fi ∷ rest) rest n w d.found) (sym (answered_given (branch v (cell d.regs x) (cell d.regs y))))
       (if_does g d n c x y rest v refl less (λ e. none (answered_given (branch v (cell d.regs x) (cell d.regs y)) ∙ e)))

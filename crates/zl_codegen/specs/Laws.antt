@@ -1,22 +1,31 @@
 -- What is proved of the code of an order, for all kernels.
 use Rattle.std.specs.Prelude.{◌≡◌, ℕ, ◌<◌, true, false, if◌then◌else◌, List, Bool, [], length, get_or, slice_get, Some, None}
 use Rattle.zl_value.specs.Lists.{Has, among}
+use Rattle.zl_value.specs.Instants.{History}
+use Rattle.zl_value.specs.Runs.{IsRun}
+use Rattle.zl_value.specs.declared.script.Script.{Script}
+use Rattle.zl_value.specs.declared.script.Ending.{Ending}
 use Rattle.zl_kernel.specs.KernelForm.{KernelForm}
 use Rattle.zl_kernel.specs.FlowWires.{reads}
 use Rattle.zl_kernel.specs.WellFormed.{IsWellFormed}
 use Rattle.zl_kernel.specs.Wires.{Registers, held, Mode, is_at_step, Moment, turn}
-use Rattle.zl_kernel.specs.declared.wire.Def.TheVariants.{Mem}
+use Rattle.zl_kernel.specs.declared.wire.Def.TheVariants.{Mem, Event}
 use Rattle.zl_kernel.specs.declared.wire.Wire.{Wire}
-use Rattle.zl_code.specs.Method.{cell, Given, method}
+use Rattle.zl_kernel.specs.WireRanks.{AreWireRanks}
+use Rattle.zl_code.specs.CodeForm.{CodeForm}
+use Rattle.zl_code.specs.Method.{cell, Given, Doing, method}
+use Rattle.zl_code.specs.System.{system_of}
+use Rattle.zl_code.specs.Trace.{trace}
+use Rattle.zl_codegen.specs.CodeOf.{code_of}
 use Rattle.zl_codegen.specs.Orders.{IsOrder}
 use Rattle.zl_codegen.specs.Needs.{is_marked, is_taken, needs, left_out}
 use Rattle.zl_codegen.specs.Statements.{body}
 
--- a method is given what the wires read: the inputs, of the memories those that some wire holds, and at a step which sites fired
+-- a method is given what the wires read: the inputs, of the memories those that some wire holds, and at a step which of the sites fired that some wire asks for
 pub record IsGiven (k : KernelForm) (m : Moment) (g : Given) : Type 0 where
   pub inputs : g.inputs ≡ m.inputs
   pub mems : (n j : ℕ) (wire : Wire) → slice_get k.wires n ≡ Some wire → wire.def ≡ Mem j → cell g.mems j ≡ held m.memories j
-  pub events : (site : ℕ) → is_at_step m.mode ≡ true → get_or g.events site false ≡ among site m.fired
+  pub events : (n site : ℕ) (wire : Wire) → slice_get k.wires n ≡ Some wire → wire.def ≡ Event site → is_at_step m.mode ≡ true → get_or g.events site false ≡ among site m.fired
 
 -- all that a method's wires read is marked
 pub record IsClosed (k : KernelForm) (mode : Mode) (marks : List Bool) : Type 0 where
@@ -30,3 +39,13 @@ MethodsSolve = (k : KernelForm) (list : List ℕ) → IsWellFormed k → IsOrder
 -- the wires that a method needs are such
 abbrev pub NeedsAreClosed : Type 0
 NeedsAreClosed = (k : KernelForm) (list : List ℕ) → IsWellFormed k → IsOrder k list → (mode : Mode) → IsClosed k mode (needs k mode list)
+
+-- two codes that are one system: each run of the one is a run of the other, and the same is printed of it
+pub record AreOneSystem (a b : CodeForm) : Type 0 where
+  pub systems : system_of a ≡ system_of b
+  pub runs : (script : Script) (h : History Doing) (ending : Ending) → IsRun (system_of a) script h ending → IsRun (system_of b) script h ending
+  pub traces : (h : History Doing) (ending : Ending) → trace a h ending ≡ trace b h ending
+
+-- the codes of two orders of one kernel are one system
+abbrev pub AnyOrder : Type 0
+AnyOrder = (k : KernelForm) (ranks xs ys : List ℕ) → IsWellFormed k → AreWireRanks k ranks → IsOrder k xs → IsOrder k ys → AreOneSystem (code_of k xs) (code_of k ys)

@@ -1,3 +1,4 @@
 -- Worked codes of orders.
 pub mod SawTooth
+pub mod Counter
 pub mod Nested

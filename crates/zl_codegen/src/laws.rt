@@ -1,5 +1,5 @@
 //! Laws of the definitions. Each is a function without a body, whose contract is the law.
-ghost use Rattle.zl_codegen.specs.Laws.{MethodsSolve, NeedsAreClosed};
+ghost use Rattle.zl_codegen.specs.Laws.{MethodsSolve, NeedsAreClosed, AnyOrder};
 
 /// A method's registers hold what the kernel says of their wires, whatever the order.
 pub fn methods_solve()
@@ -9,4 +9,9 @@ pub fn methods_solve()
 /// What a method needs is closed, whatever the order.
 pub fn needs_are_closed()
     ensures { NeedsAreClosed }
+{}
+
+/// The codes of two orders of one kernel are one system, as seen from outside.
+pub fn any_order()
+    ensures { AnyOrder }
 {}
