@@ -83,30 +83,30 @@ module _ (V : ℕ → Option Found) where
   pub over_least : (ns : List ℕ) → IsLeast ns (over None ns)
   over_least ns = all_least [] ns None none_least
 
-  -- two lists that have all that can have a fault give one fault, if no two faults have one number
+  -- two lists that have all that can have a fault have one least fault, if no two faults have one number
+  pub two_least : (xs ys : List ℕ) (a b : Option Found) → ((n : ℕ) (x : Found) → V n ≡ Some x → (among n xs ≡ true) × (among n ys ≡ true)) → ((m n : ℕ) (x y : Found) → V m ≡ Some x → V n ≡ Some y → x.ord ≡ y.ord → m ≡ n) → IsLeast xs a → IsLeast ys b → a ≡ b
+  two_least xs ys None None have apart p q = refl
+  two_least xs ys None (Some y) have apart p q =
+      let f = q.of y refl in
+      let g = p.below f.0 y (have f.0 y f.1).0 f.1 in
+      absurd (let z : None ≡ Some g.0 = g.1 in cc)
+  two_least xs ys (Some x) None have apart p q =
+      let f = p.of x refl in
+      let g = q.below f.0 x (have f.0 x f.1).1 f.1 in
+      absurd (let z : None ≡ Some g.0 = g.1 in cc)
+  two_least xs ys (Some x) (Some y) have apart p q =
+      let f = p.of x refl in
+      let g = q.of y refl in
+      let u = p.below g.0 y (have g.0 y g.1).0 g.1 in
+      let v = q.below f.0 x (have f.0 x f.1).1 f.1 in
+      let a : x ≡ u.0 = (let z : Some x ≡ Some u.0 = u.1 in cc) in
+      let b : y ≡ v.0 = (let z : Some y ≡ Some v.0 = v.1 in cc) in
+      let c : x.ord ≡ u.0.ord = ap (λ (w : Found). w.ord) a in
+      let d : y.ord ≡ v.0.ord = ap (λ (w : Found). w.ord) b in
+      let l : u.0.ord ≤ y.ord = u.2 in
+      let m : v.0.ord ≤ x.ord = v.2 in
+      let same : x.ord ≡ y.ord = omega arith in
+      sym f.1 ∙ ap V (apart f.0 g.0 x y f.1 g.1 same) ∙ g.1
+
   pub least_same : (xs ys : List ℕ) → ((n : ℕ) (x : Found) → V n ≡ Some x → (among n xs ≡ true) × (among n ys ≡ true)) → ((m n : ℕ) (x y : Found) → V m ≡ Some x → V n ≡ Some y → x.ord ≡ y.ord → m ≡ n) → over None xs ≡ over None ys
-  least_same xs ys have apart = by (over None xs) (over None ys) (over_least xs) (over_least ys)
-    where
-      by : (a b : Option Found) → IsLeast xs a → IsLeast ys b → a ≡ b
-      by None None p q = refl
-      by None (Some y) p q =
-          let f = q.of y refl in
-          let g = p.below f.0 y (have f.0 y f.1).0 f.1 in
-          absurd (let z : None ≡ Some g.0 = g.1 in cc)
-      by (Some x) None p q =
-          let f = p.of x refl in
-          let g = q.below f.0 x (have f.0 x f.1).1 f.1 in
-          absurd (let z : None ≡ Some g.0 = g.1 in cc)
-      by (Some x) (Some y) p q =
-          let f = p.of x refl in
-          let g = q.of y refl in
-          let u = p.below g.0 y (have g.0 y g.1).0 g.1 in
-          let v = q.below f.0 x (have f.0 x f.1).1 f.1 in
-          let a : x ≡ u.0 = (let z : Some x ≡ Some u.0 = u.1 in cc) in
-          let b : y ≡ v.0 = (let z : Some y ≡ Some v.0 = v.1 in cc) in
-          let c : x.ord ≡ u.0.ord = ap (λ (w : Found). w.ord) a in
-          let d : y.ord ≡ v.0.ord = ap (λ (w : Found). w.ord) b in
-          let l : u.0.ord ≤ y.ord = u.2 in
-          let m : v.0.ord ≤ x.ord = v.2 in
-          let same : x.ord ≡ y.ord = omega arith in
-          sym f.1 ∙ ap V (apart f.0 g.0 x y f.1 g.1 same) ∙ g.1
+  least_same xs ys have apart = two_least xs ys (over None xs) (over None ys) have apart (over_least xs) (over_least ys)

@@ -12,6 +12,7 @@ pub mod Places
 pub mod Reports
 pub mod OneNeed
 pub mod AnyOrder
+pub mod FaultKept
 pub mod Solved
 pub mod Solving
 pub mod Typed

@@ -49,3 +49,8 @@ wire_at k n less = by (slice_get k.wires n) refl
         none_at (w ∷ ws) zero l e = cc
         none_at (w ∷ ws) (suc i) l e = none_at ws i (omega arith) e
     by (Some w) e = (w, e)
+
+pub numbers_have : (k : KernelForm) (n : ℕ) → n < length k.wires → among n (numbers k) ≡ true
+numbers_have k n less =
+    let at = get-listed (length k.wires) 0 (λ i. i) n n less ∙ (let e : 0 + n ≡ n = omega arith in e) in
+    among_at (numbers k) n n (get_to (numbers k) n n (subst (λ m. n < m) (sym (length-listed (length k.wires) 0 (λ i. i))) less) ∙ ap Some at)

@@ -40,7 +40,7 @@ module _ (k : KernelForm) (list : List ℕ) (well : IsWellFormed k) (order : IsO
   taken n = is_taken marks out n
 
   -- what is left out isn't solved
-  solved_is : (n : ℕ) → n < length k.wires → not (is_marked out n) ≡ is_solved k m.mode n
+  pub solved_is : (n : ℕ) → n < length k.wires → not (is_marked out n) ≡ is_solved k m.mode n
   solved_is n less = by m.mode
     where
       flows : is_marked (flow_wires k) n ≡ is_of_flows k n

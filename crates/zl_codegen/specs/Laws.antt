@@ -7,19 +7,23 @@ use Rattle.zl_value.specs.declared.script.Script.{Script}
 use Rattle.zl_value.specs.declared.script.Ending.{Ending}
 use Rattle.zl_kernel.specs.KernelForm.{KernelForm}
 use Rattle.zl_kernel.specs.FlowWires.{reads}
-use Rattle.zl_kernel.specs.WellFormed.{IsWellFormed}
-use Rattle.zl_kernel.specs.Wires.{Registers, held, Mode, is_at_step, Moment, turn}
+use Rattle.zl_kernel.specs.WellFormed.{IsWellFormed, can_fail}
+use Rattle.zl_value.specs.Operators.{Faults}
+use Rattle.zl_value.specs.declared.arith.Arith.{Arith}
+use Rattle.zl_kernel.specs.Wires.{Registers, held, Mode, is_at_step, Moment, wire_answer, turn}
+use Rattle.zl_kernel.specs.Faults.{fault_of as kernel_fault}
+use Rattle.zl_kernel.specs.declared.memory.KMem.{KMem}
 use Rattle.zl_kernel.specs.declared.wire.Def.TheVariants.{Mem, Event}
 use Rattle.zl_kernel.specs.declared.wire.Wire.{Wire}
 use Rattle.zl_kernel.specs.WireRanks.{AreWireRanks}
 use Rattle.zl_code.specs.CodeForm.{CodeForm}
 use Rattle.zl_code.specs.Method.{cell, Given, Doing, method}
-use Rattle.zl_code.specs.System.{system_of}
+use Rattle.zl_code.specs.System.{fault_of as code_fault, system_of}
 use Rattle.zl_code.specs.Trace.{trace}
-use Rattle.zl_codegen.specs.CodeOf.{code_of}
+use Rattle.zl_codegen.specs.CodeOf.{method_of, code_of}
 use Rattle.zl_codegen.specs.Orders.{IsOrder}
 use Rattle.zl_codegen.specs.Needs.{is_marked, is_taken, needs, left_out}
-use Rattle.zl_codegen.specs.Statements.{body}
+use Rattle.zl_codegen.specs.Statements.{body, sets}
 
 -- a method is given what the wires read: the inputs, of the memories those that some wire holds, and at a step which of the sites fired that some wire asks for
 pub record IsGiven (k : KernelForm) (m : Moment) (g : Given) : Type 0 where
@@ -49,3 +53,11 @@ pub record AreOneSystem (a b : CodeForm) : Type 0 where
 -- the codes of two orders of one kernel are one system
 abbrev pub AnyOrder : Type 0
 AnyOrder = (k : KernelForm) (ranks xs ys : List ℕ) → IsWellFormed k → AreWireRanks k ranks → IsOrder k xs → IsOrder k ys → AreOneSystem (code_of k xs) (code_of k ys)
+
+-- no operator that can't fault has a fault over what the wires hold: what it is applied to is in the width
+pub record IsSound (k : KernelForm) (m : Moment) (r : Registers) : Type 0 where
+  pub never : (n : ℕ) (wire : Wire) (kind : Arith) → slice_get k.wires n ≡ Some wire → can_fail wire.def ≡ false → wire_answer k m (held r) n wire ≡ Faults kind → ⊥
+
+-- the fault to report after a method is the kernel's, whatever memories it sets at its end
+abbrev pub MethodsReport : Type 0
+MethodsReport = (k : KernelForm) (list : List ℕ) → IsWellFormed k → IsOrder k list → (m : Moment) (r : Registers) → r ≡ turn k m r → IsSound k m r → (g : Given) → IsGiven k m g → (marks : List Bool) (mems : List KMem) → code_fault (method (length k.wires) (method_of k m.mode list (sets marks 0 mems)) g) ≡ kernel_fault k m r

@@ -1,5 +1,5 @@
 //! Laws of the definitions. Each is a function without a body, whose contract is the law.
-ghost use Rattle.zl_codegen.specs.Laws.{MethodsSolve, NeedsAreClosed, AnyOrder};
+ghost use Rattle.zl_codegen.specs.Laws.{MethodsSolve, NeedsAreClosed, AnyOrder, MethodsReport};
 
 /// A method's registers hold what the kernel says of their wires, whatever the order.
 pub fn methods_solve()
@@ -14,4 +14,9 @@ pub fn needs_are_closed()
 /// The codes of two orders of one kernel are one system, as seen from outside.
 pub fn any_order()
     ensures { AnyOrder }
+{}
+
+/// The fault to report after a method is the kernel's.
+pub fn methods_report()
+    ensures { MethodsReport }
 {}
