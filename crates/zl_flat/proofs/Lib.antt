@@ -1,3 +1,4 @@
+pub mod CheckedLasts
 pub mod CheckedPrograms
 pub mod CheckedTypes
 pub mod ContextSteps

@@ -17,3 +17,4 @@ pub mod ThinTree
 pub mod Checked
 pub mod WorkedTexts
 pub mod Counted
+pub mod Lasts

@@ -1,5 +1,6 @@
 //! Laws of the definitions. Each is a function without a body, whose contract is the law.
 ghost use Rattle.zl_flat.specs.Counted.{CountsAreLengths, CountIsSmall, PlacesAreNumbered};
+ghost use Rattle.zl_flat.specs.Lasts.{LastsStandInCopies};
 ghost use Rattle.zl_flat.specs.Worked.{CallingExpands, FallingExpands};
 ghost use Rattle.zl_flat.specs.WorkedTexts.{OneForm, ResetBlockExpands, TwoTanksExpands, WaitingExpands};
 
@@ -48,4 +49,9 @@ pub fn count_is_small()
 /// The numbers of the places of a copy end where the copy's places do.
 pub fn places_are_numbered()
     ensures { PlacesAreNumbered }
+{}
+
+/// A `last` of a place in the copy of a call stands in that copy: its call is that one, or stands in the copy itself.
+pub fn lasts_stand_in_copies()
+    ensures { LastsStandInCopies }
 {}
