@@ -147,7 +147,7 @@ fn in_flows(alloc: Global) -> Result<Sequence<Stmt>, Fail>
 }
 
 /// The code, which has no inputs.
-fn saw_tooth(alloc: Global) -> Result<Code, Fail>
+pub(crate) fn saw_tooth(alloc: Global) -> Result<Code, Fail>
     ensures { IfOk result (λ code. code ≡ saw_tooth_code) }
 {
     let regs = registers(alloc)?;
@@ -172,7 +172,7 @@ fn saw_tooth(alloc: Global) -> Result<Code, Fail>
 }
 
 /// A step that is ready and demands no further one; the site fired if `fired` says so.
-fn steps(rt: &impl Abort, machine: &mut Machine, fired: bool)
+pub(crate) fn steps(rt: &impl Abort, machine: &mut Machine, fired: bool)
     requires code { machine.old.code ≡ saw_tooth_code }
     requires going { goes_on machine.old.mode ≡ true }
     ensures code { machine.new.code ≡ saw_tooth_code }

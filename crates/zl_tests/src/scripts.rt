@@ -1,3 +1,6 @@
+ghost use Rattle.std.specs.Prelude.{[], IfOk};
+ghost use Rattle.zl_value.specs.Script.{IsScriptFor};
+
 use std::alloc::Global;
 use std::process::Abort;
 use std::test::Fail;
@@ -5,7 +8,9 @@ use zl_script::{Input, Script, ScriptAnswer, Set, Text, read_script};
 use zl_value::{Frac, Ty, Value};
 
 /// Reads a script for a program without inputs.
-fn read_alone(alloc: Global, text: &[u8]) -> Result<Script, ScriptAnswer> {
+pub(crate) fn read_alone(alloc: Global, text: &[u8]) -> Result<Script, ScriptAnswer>
+    ensures { IfOk result (IsScriptFor []) }
+{
     read_script(alloc, text, &[])
 }
 
