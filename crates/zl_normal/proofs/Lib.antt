@@ -5,4 +5,6 @@ pub mod Instants
 pub mod Slopes
 pub mod Flows
 pub mod Runs
+pub mod MadeFlows
+pub mod Made
 pub mod WorkedParts

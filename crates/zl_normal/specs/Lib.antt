@@ -13,3 +13,11 @@ pub mod MainBlock
 pub mod Normal
 pub mod Laws
 pub mod Worked
+pub mod Tables
+pub mod Keys
+pub mod KernelOf
+pub mod Layout
+pub mod Roles
+pub mod HasSlopes
+pub mod MadeFlows
+pub mod MadeKernel

@@ -1,0 +1,24 @@
+-- The kernel that is made of a form: what holds of it in flows.
+pub mod Placed
+pub mod Roots
+pub mod SlopeRoots
+pub mod Owners
+pub mod Memories
+pub mod Named
+pub mod Kept
+pub mod Guards
+pub mod Reads
+pub mod AllReads
+pub mod Alone
+pub mod OperatorSlopes
+pub mod FormSlopes
+pub mod MadeMotions
+pub mod InFlows
+pub mod Levels
+pub mod LowRoots
+pub mod LowGuards
+pub mod LowReads
+pub mod LowSlopes
+pub mod LowPlaces
+pub mod MadeRanks
+pub mod GradedSlopes

@@ -1,0 +1,17 @@
+//! What is proved of the kernel that is made of a form. Each is a function without a body, whose contract is the law.
+ghost use Rattle.zl_normal.specs.MadeFlows.{MadeKernelIsNormal, MadeKernelHasRanks, GradesGiveSlopes};
+
+/// The kernel that is made of a form, by any layout of its wires, is its normal form.
+pub fn made_kernel_is_normal()
+    ensures { MadeKernelIsNormal }
+{}
+
+/// The wires of the kernel have ranks, each above those of what it reads.
+pub fn made_kernel_has_ranks()
+    ensures { MadeKernelHasRanks }
+{}
+
+/// By the grades of a form each operator that moves has a slope that is made of those of its operands.
+pub fn grades_give_slopes()
+    ensures { GradesGiveSlopes }
+{}
