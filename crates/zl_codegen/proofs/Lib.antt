@@ -18,3 +18,6 @@ pub mod Solving
 pub mod Typed
 pub mod Closed
 pub mod CodeIs
+pub mod HeldTypes
+pub mod MomentTypes
+pub mod RunTypes

@@ -9,3 +9,4 @@ pub mod Counts
 pub mod FlowTables
 pub mod Worked
 pub mod Laws
+pub mod RunLaws

@@ -1,5 +1,6 @@
 //! Laws of the definitions. Each is a function without a body, whose contract is the law.
 ghost use Rattle.zl_codegen.specs.Laws.{MethodsSolve, NeedsAreClosed, AnyOrder, MethodsReport};
+ghost use Rattle.zl_codegen.specs.RunLaws.{WiresKeepTypes};
 
 /// A method's registers hold what the kernel says of their wires, whatever the order.
 pub fn methods_solve()
@@ -19,4 +20,9 @@ pub fn any_order()
 /// The fault to report after a method is the kernel's.
 pub fn methods_report()
     ensures { MethodsReport }
+{}
+
+/// Along each run of a kernel each wire holds nothing, or a value of its type in the width.
+pub fn wires_keep_types()
+    ensures { WiresKeepTypes }
 {}
