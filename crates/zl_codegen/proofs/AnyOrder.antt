@@ -78,7 +78,7 @@ doing_same a b p q s =
     ap₂ (λ r m. let d : Doing = record { regs = r; mems = m; found = a.found } in d) p q
     ∙ ap (λ f. let d : Doing = record { regs = b.regs; mems = b.mems; found = f } in d) s
 
-length_map : {X Y : Type 0} (f : X → Y) (l : List X) → length (map f l) ≡ length l
+pub length_map : {X Y : Type 0} (f : X → Y) (l : List X) → length (map f l) ≡ length l
 length_map f [] = refl
 length_map f (x ∷ l) = ap (λ i. suc i) (length_map f l)
 

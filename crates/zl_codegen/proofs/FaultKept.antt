@@ -65,11 +65,11 @@ failing j (w ∷ wires) (suc i) wire at fails = by (can_fail w.def) (let e : suc
         last true = refl
         last false = refl
 
-or_true : (a b : Bool) → b ≡ true → (a || b) ≡ true
+pub or_true : (a b : Bool) → b ≡ true → (a || b) ≡ true
 or_true true b is = refl
 or_true false b is = is
 
-still_marked : (count : ℕ) (ns : List ℕ) (marks : List Bool) (n : ℕ) → n < count → (length marks ≡ count) × (is_marked marks n ≡ true) → (length (marked ns marks) ≡ count) × (is_marked (marked ns marks) n ≡ true)
+pub still_marked : (count : ℕ) (ns : List ℕ) (marks : List Bool) (n : ℕ) → n < count → (length marks ≡ count) × (is_marked marks n ≡ true) → (length (marked ns marks) ≡ count) × (is_marked (marked ns marks) n ≡ true)
 still_marked count ns marks n less it = (length-marked ns marks ∙ it.0, marked_is ns marks n (subst (λ m. n < m) (sym it.0) less) ∙ or_true (among n ns) (is_marked marks n) it.1)
 
 fails_marked : (k : KernelForm) (mode : Mode) (n : ℕ) (wire : Wire) → slice_get k.wires n ≡ Some wire → can_fail wire.def ≡ true → is_marked (roots k mode) n ≡ true

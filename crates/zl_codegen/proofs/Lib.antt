@@ -21,3 +21,9 @@ pub mod CodeIs
 pub mod HeldTypes
 pub mod MomentTypes
 pub mod RunTypes
+pub mod RootMarks
+pub mod MethodAgrees
+pub mod InstantsAgree
+pub mod FlowMemories
+pub mod FlowsAgree
+pub mod RunsKept

@@ -65,7 +65,7 @@ module _ (k : KernelForm) (list : List ℕ) (well : IsWellFormed k) (order : IsO
     found : d.found ≡ over (fault_at k m r marks) None done
 
   -- a wire that is solved nowhere is empty
-  unsolved : (n : ℕ) → n < length k.wires → is_marked out n ≡ true → held r n ≡ None
+  pub unsolved : (n : ℕ) → n < length k.wires → is_marked out n ≡ true → held r n ≡ None
   unsolved n less is =
       let w = wire_at k n less in
       let never : is_solved k m.mode n ≡ false = sym (solved_is n less) ∙ ap not is in

@@ -1,6 +1,6 @@
 //! Laws of the definitions. Each is a function without a body, whose contract is the law.
 ghost use Rattle.zl_codegen.specs.Laws.{MethodsSolve, NeedsAreClosed, AnyOrder, MethodsReport};
-ghost use Rattle.zl_codegen.specs.RunLaws.{WiresKeepTypes};
+ghost use Rattle.zl_codegen.specs.RunLaws.{WiresKeepTypes, CodeKeepsRuns};
 
 /// A method's registers hold what the kernel says of their wires, whatever the order.
 pub fn methods_solve()
@@ -25,4 +25,9 @@ pub fn methods_report()
 /// Along each run of a kernel each wire holds nothing, or a value of its type in the width.
 pub fn wires_keep_types()
     ensures { WiresKeepTypes }
+{}
+
+/// Each run of a code is one of its kernel: with the same times, marks and faults, and the same is printed of it.
+pub fn code_keeps_runs()
+    ensures { CodeKeepsRuns }
 {}
