@@ -215,7 +215,7 @@ module _ (k : KernelForm) (ranks list : List ℕ) (well : IsWellFormed k) (are :
         (of_sites (λ site. site.fresh) (λ site. site.fresh) i.table.regs j.table (fresh_is i.kind i.table j.table e.0.1.0) n)))
         (sym (length_map site_of k.sites))
 
-    asks_same : (h : History Doing) (g : History Registers) (i : Instant Doing) (j : Instant Registers) → Pair (i ∷ h) (j ∷ g) → asks B (j ∷ g) ≡ asks A (i ∷ h)
+    pub asks_same : (h : History Doing) (g : History Registers) (i : Instant Doing) (j : Instant Registers) → Pair (i ∷ h) (j ∷ g) → asks B (j ∷ g) ≡ asks A (i ∷ h)
     asks_same h g i j e =
         ap₂ (λ f kind. is_some_site f || (is_step kind && holds (held j.table k.again))) (fired_same (i ∷ h) (j ∷ g) e) e.0.0.kind
         ∙ ap (λ b. is_some_site (fired_after A (i ∷ h)) || b) (again_demands i.kind i.table j.table e.0.1.0)

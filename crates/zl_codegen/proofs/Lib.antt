@@ -27,3 +27,4 @@ pub mod InstantsAgree
 pub mod FlowMemories
 pub mod FlowsAgree
 pub mod RunsKept
+pub mod WholeRuns

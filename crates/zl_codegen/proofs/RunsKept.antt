@@ -1,61 +1,95 @@
--- The code of an order keeps the runs of its kernel, and what is printed of them.
-use Rattle.std.specs.Prelude.{◌≡◌, ℕ, suc, List, [], ◌∷◌, slice_get, Option, Some, None}
-use Rattle.std.specs.List.{filter_map}
-use Rattle.std.specs.Option.{option_map}
-use Rattle.std.proofs.Common.{refl, ap, ap₂}
-use Rattle.zl_value.specs.Lines.{Shown}
+-- The code of an order keeps the runs of its kernel.
+use Rattle.std.specs.Prelude.{◌≡◌, ℕ, pos, List, ◌∷◌, length, map}
+use Rattle.std.proofs.Common.{refl, sym, ◌∙◌, subst}
+use Rattle.zl_value.specs.Times.{nought}
+use Rattle.zl_value.specs.Crossings.{SiteValues, Lasts}
+use Rattle.zl_value.specs.Instants.{Instant, History}
+use Rattle.zl_value.specs.System.{Course, System}
+use Rattle.zl_value.specs.Runs.{FlowAfter, LeftAfter}
 use Rattle.zl_value.specs.Script.{IsScriptFor}
-use Rattle.zl_value.specs.Correspondence.{ShowsSame, Correspondence, KeepsRuns}
+use Rattle.zl_value.specs.Correspondence.{IsWhole, IsSoFar, LeftBeside, FlowBeside, Correspondence, KeepsRuns}
 use Rattle.zl_value.specs.declared.script.Script.{Script}
-use Rattle.zl_value.specs.declared.script.Output.{Output}
+use Rattle.zl_value.proofs.FractionLaws.{IsReduced-whole}
 use Rattle.zl_value.proofs.Correspondence.{keeps_runs}
 use Rattle.zl_kernel.specs.KernelForm.{KernelForm}
 use Rattle.zl_kernel.specs.WellFormed.{IsWellFormed}
-use Rattle.zl_kernel.specs.Wires.{Registers, held}
-use Rattle.zl_kernel.specs.Shown.{shown as kernel_shown, outputs as kernel_outputs}
-use Rattle.zl_kernel.specs.System.{system_of_kernel}
+use Rattle.zl_kernel.specs.Wires.{Registers, Moment}
+use Rattle.zl_kernel.specs.Faults.{fault_of as kernel_fault}
+use Rattle.zl_kernel.specs.Memories.{memories_of, moved_memory}
+use Rattle.zl_kernel.specs.System.{mode_of, flow_moment}
 use Rattle.zl_kernel.specs.WireRanks.{AreWireRanks}
-use Rattle.zl_code.specs.Method.{Cells, cell}
-use Rattle.zl_code.specs.System.{system_of}
-use Rattle.zl_code.specs.Trace.{shown, outputs}
-use Rattle.zl_codegen.specs.CodeOf.{code_of}
+use Rattle.zl_kernel.proofs.OneSolution.{has_one_registers}
+use Rattle.zl_code.specs.CodeForm.{CodeForm}
+use Rattle.zl_code.specs.Method.{Doing}
+use Rattle.zl_code.specs.System.{flow_of, fault_of as code_fault}
 use Rattle.zl_codegen.specs.Orders.{IsOrder}
-use Rattle.zl_codegen.specs.RunLaws.{SaysSame, same_sites, input_types, KeepsRunsOf, CodeKeepsRuns}
-use Rattle.zl_codegen.proofs.InstantsAgree.{out_is, instants_same, step_beside}
-use Rattle.zl_codegen.proofs.FlowsAgree.{flow_beside}
-
-shown_same : (regs : Cells) (r : Registers) (outs : List Output) → ((n : ℕ) (out : Output) → slice_get outs n ≡ Some out → held r out.«from» ≡ cell regs out.«from») → filter_map (kernel_shown r) outs ≡ filter_map (shown regs) outs
-shown_same regs r [] e = refl
-shown_same regs r (out ∷ outs) e =
-    ap₂ (λ (o : Option Shown) l. joined o l)
-    (ap (λ v. option_map (λ w. let x : Shown = record { name = out.name; value = w } in x) v) (e 0 out refl))
-    (shown_same regs r outs (λ n o at. e (suc n) o at))
-  where
-    joined : Option Shown → List Shown → List Shown
-    joined None l = l
-    joined (Some x) l = x ∷ l
+use Rattle.zl_codegen.specs.CodeOf.{site_of, code_of}
+use Rattle.zl_codegen.specs.RunLaws.{HoldsSame, SaysSame, same_sites, input_types}
+use Rattle.zl_codegen.proofs.AnyOrder.{length_map}
+use Rattle.zl_codegen.proofs.FlowsAgree.{AtOneInstant, rates, flow_fault_same, flow_lacks_same, moves_same, values_same, left_same}
+use Rattle.zl_codegen.proofs.InstantsAgree.{A, B, Pair, Reached, instants_same, step_beside}
+use Rattle.zl_codegen.proofs.RunTypes.{prefix_typed}
 
 module _ (k : KernelForm) (ranks list : List ℕ) (well : IsWellFormed k) (are : AreWireRanks k ranks) (order : IsOrder k list) (script : Script) (suits : IsScriptFor (input_types k) script) where
-  corresponds : Correspondence (system_of (code_of k list)) (system_of_kernel k) script same_sites (SaysSame k list)
+  abbrev code : System Doing Doing
+  code = A k ranks list well are order
+
+  abbrev kernel : System Registers Registers
+  kernel = B k ranks list well are order
+
+  abbrev c : CodeForm
+  c = code_of k list
+
+  pub at_one : (h : History Doing) (g : History Registers) (i : Instant Doing) (j : Instant Registers) → Pair k ranks list well are order script (i ∷ h) (j ∷ g) → IsSoFar kernel script (j ∷ g) → AtOneInstant k list i j
+  at_one h g i j e prefix =
+      let t = prefix_typed k ranks well are script suits (j ∷ g) prefix in
+      record { inputs = e.0.0.inputs; time = e.0.0.time; same = e.0.1.0; types = t.0; input_types = t.1 }
+
+  module _ (h : History Doing) (g : History Registers) (i : Instant Doing) (j : Instant Registers) (at : Reached k ranks list well are order script (i ∷ h) (j ∷ g)) where
+    one : AtOneInstant k list i j
+    one = at_one h g i j at.corresponds at.second
+
+    abbrev flow : Course Registers
+    flow s = rates k ranks list well are order i j one
+
+    start_is : (y : Course Doing) → FlowAfter code script h i y → y nought ≡ flow_of c i.table.mems i.inputs
+    start_is y after = after.solves nought (IsReduced-whole (pos 0)) refl
+
+    left_beside : (next : Instant Doing) (end : LeftAfter code script h i next) → LeftBeside code kernel script same_sites (SaysSame k list) (i ∷ h) (j ∷ g) flow end.duration next
+    left_beside next end =
+        let moment : Moment = record { mode = mode_of next.kind; inputs = next.inputs; fired = next.fired; memories = map (moved_memory j.table (flow nought) end.duration) k.mems } in
+        let sol = has_one_registers k moment ranks are in
+        record {
+          table = sol.registers;
+          solves = sol.solves;
+          says =
+              subst (λ x. HoldsSame k list next.kind x sol.registers × (kernel_fault k (record { mode = mode_of next.kind; inputs = next.inputs; fired = next.fired; memories = memories_of k (j ∷ g) }) sol.registers ≡ code_fault x)) (sym end.solves)
+              (left_same k ranks list well are order i j one (end.flow nought) (start_is end.flow end.move.flow) end.move.whole end.duration end.move.lasts.reduced end.fits next.kind end.kind next.inputs end.inputs next.fired (memories_of k (j ∷ g)) sol.registers sol.solves);
+        }
+
+    flow_beside : (y : Course Doing) → FlowAfter code script h i y → IsWhole (code.flow_fault h i y) (code.flow_lacks i y) → FlowBeside code kernel script same_sites (SaysSame k list) h g i j y
+    flow_beside y after whole =
+        let start = start_is y after in
+        record {
+          flow = flow;
+          solves = λ s low later. (has_one_registers k (flow_moment k j) ranks are).solves;
+          fault = flow_fault_same k ranks list well are order i j one (y nought) start;
+          whole = λ none. flow_lacks_same k ranks list well are order i j one (y nought) start ∙ whole none;
+          lasts = λ none d lasts.
+              subst (λ n. Lasts script (kernel.values j flow) n i.time d) (length_map site_of k.sites)
+              (subst (λ (v : SiteValues). Lasts script v (length c.sites) i.time d) (sym (values_same k ranks list well are order i j one (y nought) start (whole none))) lasts);
+          moves = λ none d lasts. moves_same k ranks list well are order i j one (y nought) start d;
+          left = λ next end is. left_beside next end;
+        }
+
+  corresponds : Correspondence code kernel script same_sites (SaysSame k list)
   corresponds = record {
     inputs = refl;
     nothing = refl;
     step = step_beside k ranks list well are order script suits;
     instant = instants_same k ranks list well are order script;
-    flow = λ h g i j y at after whole. flow_beside k ranks list well are order script suits h g i j at y after whole;
+    flow = λ h g i j y at after whole. flow_beside h g i j at y after whole;
   }
 
-  law : KeepsRuns (system_of (code_of k list)) (system_of_kernel k) script same_sites (SaysSame k list)
-  law = keeps_runs (system_of (code_of k list)) (system_of_kernel k) script same_sites (SaysSame k list) corresponds
-
-  shows : ShowsSame (system_of (code_of k list)) (system_of_kernel k) script same_sites (SaysSame k list) (outputs (code_of k list)) (kernel_outputs k)
-  shows h g i j at none whole = shown_same i.table.regs j.table k.outs (out_is k ranks list well are order i.kind i.table j.table at.corresponds.0.1.0)
-
-  pub kept : KeepsRunsOf k list script
-  kept = record {
-    runs = law;
-    traces = λ h ending is some. let b = law.runs h ending is some in (b.history, b.is, b.prints (outputs (code_of k list)) (kernel_outputs k) shows);
-  }
-
-pub code_keeps_runs : CodeKeepsRuns
-code_keeps_runs k ranks list well are order script suits = kept k ranks list well are order script suits
+  pub law : KeepsRuns code kernel script same_sites (SaysSame k list)
+  law = keeps_runs code kernel script same_sites (SaysSame k list) corresponds

@@ -10,7 +10,6 @@ use Rattle.zl_value.specs.declared.value.Value.{Value}
 use Rattle.zl_value.specs.declared.script.Script.{Script}
 use Rattle.zl_value.specs.declared.script.Input.{Input}
 use Rattle.zl_value.specs.declared.script.Ending.{Ending}
-use Rattle.zl_value.specs.declared.script.Ending.TheVariants.{Empty}
 use Rattle.zl_kernel.specs.KernelForm.{KernelForm}
 use Rattle.zl_kernel.specs.WellFormed.{IsWellFormed}
 use Rattle.zl_kernel.specs.Wires.{Registers, held}
@@ -61,11 +60,11 @@ SaysSame k list _ _ = ⊥
 abbrev pub same_sites : List ℕ → List ℕ
 same_sites ns = ns
 
--- each beginning of a run of the code has one of the kernel beside it; so has each run that doesn't end for want of a value, with
--- the same end, and the same is printed of both
+-- each beginning of a run of the code has one of the kernel beside it; so has each run, with the same end, and the same is printed
+-- of both
 pub record KeepsRunsOf (k : KernelForm) (list : List ℕ) (script : Script) : Type 0 where
   pub runs : KeepsRuns (system_of (code_of k list)) (system_of_kernel k) script same_sites (SaysSame k list)
-  pub traces : (h : History Doing) (ending : Ending) → IsRun (system_of (code_of k list)) script h ending → (ending ≡ Empty → ⊥) → (history : History Registers) × IsRun (system_of_kernel k) script history ending × (trace_of (system_of_kernel k) (outputs k) history ending ≡ trace (code_of k list) h ending)
+  pub traces : (h : History Doing) (ending : Ending) → IsRun (system_of (code_of k list)) script h ending → (history : History Registers) × IsRun (system_of_kernel k) script history ending × (trace_of (system_of_kernel k) (outputs k) history ending ≡ trace (code_of k list) h ending)
 
 -- the code of each order of a well-formed kernel that has ranks keeps the runs of the kernel, with each script for its inputs
 abbrev pub CodeKeepsRuns : Type 0
