@@ -28,3 +28,4 @@ pub mod FlowMemories
 pub mod FlowsAgree
 pub mod RunsKept
 pub mod WholeRuns
+pub mod RunsHad

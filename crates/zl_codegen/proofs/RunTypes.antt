@@ -200,7 +200,7 @@ module _ (k : KernelForm) (ranks : List ℕ) (well : IsWellFormed k) (are : AreW
       hold_types k well (flow_moment k i) (record { inputs = t.1; memories = after_held k well i.table t.0 }) y solves ranks are
 
   module _ (script : Script) (suits : IsScriptFor (input_types k) script) where
-    at_step : (h : History Registers) (i : Instant Registers) → TypedSoFar k h → StepAfter (system_of_kernel k) script h i → TypedSoFar k (i ∷ h)
+    pub at_step : (h : History Registers) (i : Instant Registers) → TypedSoFar k h → StepAfter (system_of_kernel k) script h i → TypedSoFar k (i ∷ h)
     at_step h i t step =
         instant_typed h i (memories_of k h) t (subst (λ l. InputTypes k l) (sym step.inputs) (inputs_held k script suits i.time (steps_at i.time h) (latest_inputs h) (latest_held k h t))) (memories_held h t) step.solves
 

@@ -82,7 +82,7 @@ module _ (k : KernelForm) (ranks list : List ℕ) (well : IsWellFormed k) (are :
         ∙ ap (λ n. asks code (i ∷ h) || is_some (line_for script i.time n)) (same_steps_at i.time (i ∷ h) (j ∷ g) e)
 
     -- what follows is the same
-    same_next : next kernel script (j ∷ g) ≡ next code script (i ∷ h)
+    pub same_next : next kernel script (j ∷ g) ≡ next code script (i ∷ h)
     same_next =
         ap₂ (λ l f. unless_lacking l f (next_after script j.time (mark_of g j) f (is_demanded kernel script (j ∷ g)) (steps_in (j ∷ g)))) same_lacks e.0.1.1
         ∙ ap₂ (λ t m. unless_lacking (code.lacks i) (code.fault h i) (next_after script t m (code.fault h i) (is_demanded kernel script (j ∷ g)) (steps_in (j ∷ g)))) e.0.0.time same_mark

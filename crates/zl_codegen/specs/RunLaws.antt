@@ -69,3 +69,13 @@ pub record KeepsRunsOf (k : KernelForm) (list : List ℕ) (script : Script) : Ty
 -- the code of each order of a well-formed kernel that has ranks keeps the runs of the kernel, with each script for its inputs
 abbrev pub CodeKeepsRuns : Type 0
 CodeKeepsRuns = (k : KernelForm) (ranks list : List ℕ) → IsWellFormed k → AreWireRanks k ranks → IsOrder k list → (script : Script) → IsScriptFor (input_types k) script → KeepsRunsOf k list script
+
+-- each beginning of a run of the kernel has one of the code beside it; so has each run, with the same end, and the same is printed
+-- of both
+pub record HasRunsOf (k : KernelForm) (list : List ℕ) (script : Script) : Type 0 where
+  pub runs : KeepsRuns (system_of_kernel k) (system_of (code_of k list)) script same_sites (λ g h. SaysSame k list h g)
+  pub traces : (g : History Registers) (ending : Ending) → IsRun (system_of_kernel k) script g ending → (history : History Doing) × IsRun (system_of (code_of k list)) script history ending × (trace (code_of k list) history ending ≡ trace_of (system_of_kernel k) (outputs k) g ending)
+
+-- and no run of the kernel is lost
+abbrev pub CodeHasRuns : Type 0
+CodeHasRuns = (k : KernelForm) (ranks list : List ℕ) → IsWellFormed k → AreWireRanks k ranks → IsOrder k list → (script : Script) → IsScriptFor (input_types k) script → HasRunsOf k list script

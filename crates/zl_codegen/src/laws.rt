@@ -1,6 +1,6 @@
 //! Laws of the definitions. Each is a function without a body, whose contract is the law.
 ghost use Rattle.zl_codegen.specs.Laws.{MethodsSolve, NeedsAreClosed, AnyOrder, MethodsReport};
-ghost use Rattle.zl_codegen.specs.RunLaws.{WiresKeepTypes, CodeKeepsRuns};
+ghost use Rattle.zl_codegen.specs.RunLaws.{WiresKeepTypes, CodeKeepsRuns, CodeHasRuns};
 
 /// A method's registers hold what the kernel says of their wires, whatever the order.
 pub fn methods_solve()
@@ -30,4 +30,9 @@ pub fn wires_keep_types()
 /// Each run of a code is one of its kernel: with the same times, marks and faults, and the same is printed of it.
 pub fn code_keeps_runs()
     ensures { CodeKeepsRuns }
+{}
+
+/// Each run of a kernel is one of the code of any of its orders.
+pub fn code_has_runs()
+    ensures { CodeHasRuns }
 {}
