@@ -8,7 +8,7 @@ use Rattle.zl_causal.specs.declared.node.Node.TheVariants.{Place, Leads}
 use Rattle.zl_causal.specs.Nodes.{number_of, node_of}
 use Rattle.zl_causal.specs.FormLinks.{links_of}
 use Rattle.zl_causal.specs.Edges.{Way}
-use Rattle.zl_causal.specs.Circles.{AreCircles}
+use Rattle.zl_graph.specs.Circles.{AreCircles}
 use Rattle.zl_causal.specs.Ranking.{NoPlace}
 use Rattle.zl_causal.specs.Refused.{IsCircleAt, IsMarked, IsFirstMarked}
 use Rattle.zl_causal.proofs.NodeNumbers.{way_along, along_way}

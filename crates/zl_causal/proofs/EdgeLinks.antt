@@ -18,7 +18,7 @@ use Rattle.zl_meaning.specs.declared.occurrence.Form.{Form}
 use Rattle.zl_meaning.specs.declared.occurrence.Form.TheVariants.{Lit, Read, Last, Op as Apply, If, Arrow, Pre, Result, Up, Fired, Step}
 use Rattle.zl_meaning.specs.declared.occurrence.Occ.{Occ}
 use Rattle.zl_meaning.proofs.Members.{has-left, has-right, has-later, has-none, has-case, has-cases, has-flat_map}
-use Rattle.zl_causal.specs.declared.graph.Link.{Link}
+use Rattle.zl_graph.specs.declared.graph.Link.{Link}
 use Rattle.zl_causal.specs.declared.node.Node.{Node}
 use Rattle.zl_causal.specs.declared.node.Node.TheVariants.{Place, Block, Value, Used, Start, Lasts, Leads, Tests, Strong, Events}
 use Rattle.zl_causal.specs.Nodes.{link_of}

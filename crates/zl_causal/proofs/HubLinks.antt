@@ -3,7 +3,7 @@ use Rattle.std.proofs.Common.{◌≡◌, ◌⊎◌, inl, inr, ℕ, ◌+◌, ◌<
 use Rattle.std.proofs.lemmas.Bool.{cases_lt}
 use Rattle.zl_value.specs.Lists.{Has}
 use Rattle.zl_meaning.proofs.Members.{has-left, has-right, has-cases, has-none, has-append_case}
-use Rattle.zl_causal.specs.declared.graph.Link.{Link}
+use Rattle.zl_graph.specs.declared.graph.Link.{Link}
 use Rattle.zl_causal.specs.declared.node.Node.TheVariants.{Place, Block, Hub}
 use Rattle.zl_causal.specs.Nodes.{number_of, link_of}
 use Rattle.zl_causal.specs.Refused.{ToHub, FromHub, HasBlocks, HasPlaces, IsBlockAdded}

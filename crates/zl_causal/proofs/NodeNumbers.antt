@@ -1,10 +1,10 @@
 -- Nodes by their numbers, and ways by links.
 use Rattle.std.proofs.Common.{◌≡◌, ◌⊎◌, inl, inr, ℕ, refl, sym, ap, ◌∙◌, subst, arith}
 use Rattle.zl_meaning.specs.FlatForm.{FlatForm}
-use Rattle.zl_causal.specs.declared.graph.Link.{Link}
+use Rattle.zl_graph.specs.declared.graph.Link.{Link}
 use Rattle.zl_causal.specs.declared.node.Node.{Node}
 use Rattle.zl_causal.specs.declared.node.Node.TheVariants.{Place, Block, Value, Used, Start, Lasts, Leads, Tests, Strong, Events, Hub}
-use Rattle.zl_causal.specs.Graph.{IsLinked, Reaches, Here, Along, Leads as LeadsAlong}
+use Rattle.zl_graph.specs.Graph.{IsLinked, Reaches, Here, Along, Leads as LeadsAlong}
 use Rattle.zl_causal.specs.Nodes.{number_of}
 use Rattle.zl_causal.specs.FormLinks.{links_of}
 use Rattle.zl_causal.specs.Edges.{Edge, Way, One, More}

@@ -4,10 +4,10 @@ use Rattle.zl_value.specs.Lists.{Has}
 use Rattle.zl_meaning.proofs.Members.{has-left, has-right, has-none, has-append_case}
 use Rattle.zl_meaning.specs.declared.place.Definer.{Definer}
 use Rattle.zl_meaning.specs.declared.place.PlaceInfo.{PlaceInfo}
-use Rattle.zl_causal.specs.declared.graph.Link.{Link}
+use Rattle.zl_graph.specs.declared.graph.Link.{Link}
 use Rattle.zl_causal.specs.FormLinks.{numbered, own_links, definer_links, definers_links, places_links}
 use Rattle.zl_causal.specs.Edges.{all_definers}
-use Rattle.zl_causal.proofs.Positions.{get-left}
+use Rattle.zl_graph.proofs.Positions.{get-left}
 
 pub numbered-has : {X : Type 0} (links : ℕ → X → List Link) (k i n : ℕ) (xs : List X) (x : X) (l : Link) → n ≡ k + i → slice_get xs i ≡ Some x → Has (links n x) l → Has (numbered links k xs) l
 numbered-has links k i n [] x l e at has = absurd (cc)

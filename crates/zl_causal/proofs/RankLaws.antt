@@ -9,19 +9,16 @@ use Rattle.zl_meaning.specs.Depends.{Thing, PlaceThing, BlockThing, DependsAtOnc
 use Rattle.zl_meaning.specs.declared.block.Block.{Block as TheBlock}
 use Rattle.zl_meaning.specs.declared.block.BlockKind.TheVariants.{Arm, State, Reset}
 use Rattle.zl_meaning.specs.declared.place.PlaceInfo.{PlaceInfo}
-use Rattle.zl_causal.specs.declared.graph.Link.{Link}
 use Rattle.zl_causal.specs.declared.node.Node.{Node}
 use Rattle.zl_causal.specs.declared.node.Node.TheVariants.{Place, Block, Leads}
-use Rattle.zl_causal.specs.Graph.{Reaches, Here, Along, HasNodes, Leads as LeadsAlong}
 use Rattle.zl_causal.specs.Nodes.{number_of, node_of}
 use Rattle.zl_causal.specs.FormLinks.{links_of}
 use Rattle.zl_causal.specs.Edges as edges
 use Rattle.zl_causal.specs.Edges.{Edge, Way, One, More}
-use Rattle.zl_causal.specs.Circles.{AreCircles}
+use Rattle.zl_graph.specs.Circles.{AreCircles}
 use Rattle.zl_causal.specs.Ranking.{NoPlace, NoBlock, ArePlaceNumbers, AreBlockNumbers}
-use Rattle.zl_causal.proofs.Ways.{Reaches-trans}
+use Rattle.zl_graph.proofs.Falls.{falls}
 use Rattle.zl_causal.proofs.EdgeLinks.{by_option, by_kind}
-use Rattle.zl_causal.proofs.Loops.{falls_along}
 use Rattle.zl_causal.proofs.NodeNumbers.{way_along}
 use Rattle.zl_causal.proofs.WaysOfForms.{LeadsBack, dependency_way, leads_way}
 
@@ -65,23 +62,6 @@ way_within f a b (More c d g edge way) = edge_within f a d edge
 leads_within : (f : FlatForm) (p q : ℕ) → LeadsTo f p q → p < length f.places
 leads_within f p q (depends.AtOnce r s b k definer reads) = slice_get_within f.places p definer.0 definer.1
 leads_within f p q (depends.Further r s t b k definer reads rest) = slice_get_within f.places p definer.0 definer.1
-
-reaches_within : (links : List Link) (n : ℕ) → HasNodes links n → (a b : ℕ) → Reaches links a b → a < n → b < n
-reaches_within links n nodes a b (Here c) l = l
-reaches_within links n nodes a b (Along c d e link rest) l = reaches_within links n nodes d b rest (nodes.to a d link)
-
--- along links from a node that doesn't lead to itself, numbers fall
-falls : (links : List Link) (numbers : List ℕ) (marks : List Bool) → AreCircles links numbers marks → (a b : ℕ) → LeadsAlong links a b → (get_or marks a false ≡ true → ⊥) → get_or numbers b 0 < get_or numbers a 0
-falls links numbers marks circles a b h none = by_place (cases_lt (get_or numbers b 0) (get_or numbers a 0))
-  where
-    by_place : (get_or numbers b 0 < get_or numbers a 0) ⊎ (get_or numbers a 0 ≤ get_or numbers b 0) → get_or numbers b 0 < get_or numbers a 0
-    by_place (inl l) = l
-    by_place (inr l) =
-        let down = circles.parts.fall a h.0 h.1 in
-        let on = falls_along links numbers circles.parts h.0 b h.2 in
-        let same : get_or numbers b 0 ≡ get_or numbers a 0 = omega (arith, l, down, on) in
-        let back = circles.parts.joined b a (reaches_within links (length numbers) circles.parts.nodes h.0 b h.2 (circles.parts.nodes.to a h.0 h.1)) (circles.parts.nodes.from a h.0 h.1) same in
-        absurd (none (circles.full a (h.0, h.1, Reaches-trans links h.0 b a h.2 back)))
 
 module _ (f : FlatForm) (numbers places blocks : List ℕ) (marks : List Bool) (circles : AreCircles (links_of f) numbers marks) (no_place : NoPlace marks (length f.places))
     (no_block : NoBlock marks (length f.blocks)) (of_places : ArePlaceNumbers numbers (length f.places) places) (of_blocks : AreBlockNumbers numbers (length f.blocks) blocks) where

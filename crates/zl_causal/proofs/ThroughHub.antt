@@ -5,20 +5,20 @@ use Rattle.zl_value.specs.Lists.{Has}
 use Rattle.zl_value.specs.declared.position.Pos.{Pos}
 use Rattle.zl_meaning.specs.FlatForm.{FlatForm}
 use Rattle.zl_meaning.specs.Depends.{PlaceThing, BlockThing, IsOnCircle}
-use Rattle.zl_causal.specs.declared.graph.Link.{Link}
+use Rattle.zl_graph.specs.declared.graph.Link.{Link}
 use Rattle.zl_causal.specs.declared.node.Node.{Node}
 use Rattle.zl_causal.specs.declared.node.Node.TheVariants.{Place, Block, Leads, Hub}
-use Rattle.zl_causal.specs.Graph.{IsLinked, Reaches, Here, Along, Leads as LeadsAlong}
+use Rattle.zl_graph.specs.Graph.{IsLinked, Reaches, Here, Along, Leads as LeadsAlong}
 use Rattle.zl_causal.specs.Nodes.{number_of, link_of}
 use Rattle.zl_causal.specs.FormLinks.{links_of}
 use Rattle.zl_causal.specs.Edges as edges
 use Rattle.zl_causal.specs.Edges.{Edge, Way}
-use Rattle.zl_causal.specs.Circles.{AreCircles}
+use Rattle.zl_graph.specs.Circles.{AreCircles}
 use Rattle.zl_causal.specs.Ranking.{NoPlace}
 use Rattle.zl_causal.specs.Refused.{IsCircleAt, IsMarked, IsFirstMarked, ToHub, FromHub, HasBlocks, HasPlaces}
 use Rattle.zl_meaning.specs.WellFormed.{IsWellFormed}
 use Rattle.zl_causal.proofs.SomePlace.{some_place}
-use Rattle.zl_causal.proofs.Ways.{Reaches-trans}
+use Rattle.zl_graph.proofs.Ways.{Reaches-trans}
 use Rattle.zl_causal.proofs.LinkEdges.{link_edge}
 use Rattle.zl_causal.proofs.NodeNumbers.{same_node, way_along, along_way}
 use Rattle.zl_causal.proofs.WaysOfForms.{LeadsBack}

@@ -1,9 +1,5 @@
-pub mod Chains
-pub mod Circles
 pub mod Edges
 pub mod FormLinks
-pub mod Graph
 pub mod Nodes
 pub mod Refused
 pub mod Ranking
-pub mod Walking

@@ -8,7 +8,7 @@ use Rattle.zl_value.specs.declared.rule.Rule.TheVariants.{Causality}
 use Rattle.zl_meaning.specs.FlatForm.{FlatForm}
 use Rattle.zl_meaning.specs.Depends.{IsInCircle, IsOnCircle, AreRanks}
 use Rattle.zl_meaning.specs.declared.place.PlaceInfo.{PlaceInfo}
-use Rattle.zl_causal.specs.declared.graph.Link.{Link}
+use Rattle.zl_graph.specs.declared.graph.Link.{Link}
 use Rattle.zl_causal.specs.declared.node.Node.TheVariants.{Place, Block, Leads, Hub}
 use Rattle.zl_causal.specs.declared.ranking.Ranked.{Ranked}
 use Rattle.zl_causal.specs.declared.ranking.Ranked.TheVariants.{Causal, Circular}

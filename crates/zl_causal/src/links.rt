@@ -6,9 +6,9 @@ ghost use Rattle.std.specs.List.{flat_map};
 ghost use Rattle.zl_meaning.specs.declared.place.Definer.TheVariants as definer;
 ghost use Rattle.zl_causal.specs.FormLinks as spec;
 
-use crate::graph::Link;
 use crate::node::{Node, add_link};
 use std::alloc::{AllocError, Global};
+use zl_graph::Link;
 use zl_meaning::{
     Auto, AutoMove, Block, BlockKind, Choice, Definer, DerArm, Flat, Form, Occ, PlaceInfo, narrow,
 };

@@ -2,8 +2,8 @@
 ghost use Rattle.std.specs.Prelude.{◌≡◌, ◌+◌, ◌*◌, ◌++◌, ◌∷◌, [], IfOk, OnOk};
 ghost use Rattle.zl_causal.specs.Nodes.{number_of, link_of};
 
-use crate::graph::Link;
 use std::alloc::AllocError;
+use zl_graph::Link;
 use zl_meaning::narrow;
 
 /// A node of the graph of a form.

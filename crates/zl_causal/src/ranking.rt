@@ -2,18 +2,17 @@
 ghost use Rattle.std.specs.Prelude.{◌≡◌, ℕ, true, false, length, slice_index_or, None, IfOk, IfErr, IfSome, OnOk};
 ghost use Rattle.zl_meaning.specs.Depends.{AreRanks};
 ghost use Rattle.zl_meaning.specs.OneInstant.{HasOneInstantEach};
-ghost use Rattle.zl_causal.specs.Circles.{AreCircles};
+ghost use Rattle.zl_graph.specs.Circles.{AreCircles};
 ghost use Rattle.zl_causal.specs.FormLinks as spec;
 ghost use Rattle.zl_causal.specs.Nodes as nodes;
 ghost use Rattle.zl_causal.specs.declared.node.Node.TheVariants as node;
 ghost use Rattle.zl_causal.specs.Refused.{IsRanked, IsRefused, IsFirstMarked, IsBlockAdded, HasBlocks, HasPlaces};
 ghost use Rattle.zl_causal.specs.Ranking.{NoPlace, NoBlock, ArePlaceNumbers, AreBlockNumbers};
 
-use crate::circles::Circles;
-use crate::graph::Link;
 use crate::links::links_of;
 use crate::node::{Node, add_link, number_of};
 use std::alloc::{AllocError, Global};
+use zl_graph::{Circles, Link};
 use zl_meaning::laws::is_well_formed;
 use zl_meaning::{Flat, PlaceInfo, Ranks, narrow};
 use zl_value::{Pos, Refusal, Rule};
@@ -27,7 +26,7 @@ fn number(count: usize) -> Result<u32, AllocError>
 
 /// Whether a node leads to itself.
 fn has(circles: &Circles, node: Node) -> Result<bool, AllocError>
-    ensures { IfOk result (λ b. b ≡ slice_index_or circles.now.circled.items (nodes.number_of node) false) }
+    ensures { IfOk result (λ b. b ≡ slice_index_or circles.now.marks (nodes.number_of node) false) }
 {
     let number = number_of(node)?;
     Ok(circles.has(number))
@@ -35,8 +34,8 @@ fn has(circles: &Circles, node: Node) -> Result<bool, AllocError>
 
 /// The first place that leads to itself, or whose `init` values lead back to it.
 fn first_circled(circles: &Circles, places: &[PlaceInfo]) -> Result<Option<Pos>, AllocError>
-    ensures none { IfOk result (λ first. first ≡ None → NoPlace circles.now.circled.items (length places.now)) }
-    ensures first { IfOk result (λ first. IfSome first (IsFirstMarked circles.now.circled.items places.now)) }
+    ensures none { IfOk result (λ first. first ≡ None → NoPlace circles.now.marks (length places.now)) }
+    ensures first { IfOk result (λ first. IfSome first (IsFirstMarked circles.now.marks places.now)) }
 {
     for (index, place) in places.iter().enumerate() {
         let p = number(index)?;
@@ -52,8 +51,8 @@ fn first_circled(circles: &Circles, places: &[PlaceInfo]) -> Result<Option<Pos>,
 
 /// Whether some block leads to itself.
 fn has_block(circles: &Circles, blocks: usize) -> Result<bool, AllocError>
-    ensures none { IfOk result (λ some. some ≡ false → NoBlock circles.now.circled.items blocks) }
-    ensures some { IfOk result (λ some. some ≡ true → (b : ℕ) × (slice_index_or circles.now.circled.items (nodes.number_of (node.Block b)) false ≡ true)) }
+    ensures none { IfOk result (λ some. some ≡ false → NoBlock circles.now.marks blocks) }
+    ensures some { IfOk result (λ some. some ≡ true → (b : ℕ) × (slice_index_or circles.now.marks (nodes.number_of (node.Block b)) false ≡ true)) }
 {
     for index in 0..blocks {
         let b = number(index)?;
@@ -66,7 +65,7 @@ fn has_block(circles: &Circles, blocks: usize) -> Result<bool, AllocError>
 
 /// Links a block to the hub, if it leads to itself.
 fn add_block(links: &mut Vec<Link>, circles: &Circles, b: u32) -> Result<(), AllocError>
-    ensures { OnOk result (IsBlockAdded circles.now.circled.items b links.old.items links.new.items) }
+    ensures { OnOk result (IsBlockAdded circles.now.marks b links.old.items links.new.items) }
 {
     if has(circles, Node::Block(b))? {
         return add_link(links, Node::Block(b), Node::Hub);
@@ -76,7 +75,7 @@ fn add_block(links: &mut Vec<Link>, circles: &Circles, b: u32) -> Result<(), All
 
 /// Links each block that leads to itself to the hub.
 fn add_blocks(links: &mut Vec<Link>, circles: &Circles, blocks: usize) -> Result<(), AllocError>
-    ensures { OnOk result (HasBlocks circles.now.circled.items blocks links.old.items links.new.items) }
+    ensures { OnOk result (HasBlocks circles.now.marks blocks links.old.items links.new.items) }
 {
     for index in 0..blocks {
         let b = number(index)?;
@@ -97,7 +96,7 @@ fn add_places(links: &mut Vec<Link>, places: usize) -> Result<(), AllocError>
 }
 
 fn place_ranks(alloc: Global, circles: &Circles, places: usize) -> Result<Vec<u32>, AllocError>
-    ensures { IfOk result (λ ranks. ArePlaceNumbers circles.now.numbers.items places ranks.items) }
+    ensures { IfOk result (λ ranks. ArePlaceNumbers circles.now.numbers places ranks.items) }
 {
     let mut ranks = Vec::new(alloc);
     for index in 0..places {
@@ -109,7 +108,7 @@ fn place_ranks(alloc: Global, circles: &Circles, places: usize) -> Result<Vec<u3
 }
 
 fn block_ranks(alloc: Global, circles: &Circles, blocks: usize) -> Result<Vec<u32>, AllocError>
-    ensures { IfOk result (λ ranks. AreBlockNumbers circles.now.numbers.items blocks ranks.items) }
+    ensures { IfOk result (λ ranks. AreBlockNumbers circles.now.numbers blocks ranks.items) }
 {
     let mut ranks = Vec::new(alloc);
     for index in 0..blocks {
@@ -122,9 +121,9 @@ fn block_ranks(alloc: Global, circles: &Circles, blocks: usize) -> Result<Vec<u3
 
 /// The ranks of a form nothing in which depends on itself.
 fn ranks_by(alloc: Global, flat: &Flat, circles: &Circles) -> Result<Ranks, AllocError>
-    requires circles { AreCircles (spec.links_of flat.now) circles.now.numbers.items circles.now.circled.items }
-    requires places { NoPlace circles.now.circled.items (length flat.now.places) }
-    requires blocks { NoBlock circles.now.circled.items (length flat.now.blocks) }
+    requires circles { AreCircles (spec.links_of flat.now) circles.now.numbers circles.now.marks }
+    requires places { NoPlace circles.now.marks (length flat.now.places) }
+    requires blocks { NoBlock circles.now.marks (length flat.now.blocks) }
     ensures { IfOk result (λ r. AreRanks flat.now r.places.items r.blocks.items) }
 {
     let places = place_ranks(alloc, circles, flat.places.len())?;
@@ -147,8 +146,8 @@ fn ranked_by_blocks(
     circles: &Circles,
 ) -> Result<Ranked, AllocError>
     requires links { links.items ≡ spec.links_of flat.now }
-    requires circles { AreCircles (spec.links_of flat.now) circles.now.numbers.items circles.now.circled.items }
-    requires places { NoPlace circles.now.circled.items (length flat.now.places) }
+    requires circles { AreCircles (spec.links_of flat.now) circles.now.numbers circles.now.marks }
+    requires places { NoPlace circles.now.marks (length flat.now.places) }
     ensures { IfOk result (IsRanked flat.now) }
 {
     if !has_block(circles, flat.blocks.len())? {

@@ -1,7 +1,7 @@
 use Rattle.std.proofs.Common.{◌≡◌, ◌++◌, ◌∷◌, [], sym, ap, ◌∙◌, append_assoc}
 use Rattle.std.specs.List.{flat_map}
 use Rattle.zl_causal.specs.FormLinks as spec
-use Rattle.zl_causal.proofs.Ways.{on_ok}
+use Rattle.zl_graph.proofs.Ways.{on_ok}
 use Rattle.zl_causal.proofs.links.add_form.Goals as goal
 
 pub returns-in_ok-add_parts-in-If : goal.returns-in_ok-add_parts-in-If

@@ -6,7 +6,7 @@ use Rattle.zl_causal.proofs.ranking.ranks_by.Goals as goal
 
 pub returns : goal.returns
 returns c =
-    let numbers = c.args.circles.now.numbers.items in
-    are_ranks c.args.flat.now numbers c.in_ok-places.places.items c.in_ok-blocks.blocks.items c.args.circles.now.circled.items c.requires.circles c.requires.places c.requires.blocks
+    let numbers = c.args.circles.now.numbers in
+    are_ranks c.args.flat.now numbers c.in_ok-places.places.items c.in_ok-blocks.blocks.items c.args.circles.now.marks c.requires.circles c.requires.places c.requires.blocks
     (subst (λ (n : ℕ). ArePlaceNumbers numbers n c.in_ok-places.places.items) (c.len.ensures ∙ ap (λ (f : FlatForm). length f.places) c.flat.view_is) c.in_ok-places.ensures)
     (subst (λ (n : ℕ). AreBlockNumbers numbers n c.in_ok-blocks.blocks.items) (c.len-2.ensures ∙ ap (λ (f : FlatForm). length f.blocks) c.flat.view_is) c.in_ok-blocks.ensures)

@@ -1,0 +1,11 @@
+pub mod ChainLemmas
+pub mod Closes
+pub mod Ends
+pub mod Enters
+pub mod Falls
+pub mod Joins
+pub mod Loops
+pub mod Moves
+pub mod Positions
+pub mod StackLemmas
+pub mod Ways

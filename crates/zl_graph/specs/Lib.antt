@@ -1,0 +1,4 @@
+pub mod Chains
+pub mod Circles
+pub mod Graph
+pub mod Walking
