@@ -8,3 +8,5 @@ pub mod Runs
 pub mod MadeFlows
 pub mod Made
 pub mod WorkedParts
+pub mod LinkLists
+pub mod WireGraph

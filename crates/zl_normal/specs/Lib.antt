@@ -21,3 +21,4 @@ pub mod Roles
 pub mod HasSlopes
 pub mod MadeFlows
 pub mod MadeKernel
+pub mod WireLinks

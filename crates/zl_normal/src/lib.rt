@@ -5,4 +5,5 @@ mod key;
 pub mod laws;
 pub mod made_flows;
 mod role;
+mod wire_ranks;
 pub mod worked;
