@@ -1,4 +1,4 @@
--- The kernel that is made of a form is normal at instants.
+-- The kernel that is made of a form is normal at instants, and well formed.
 pub mod Wires
 pub mod Uses
 pub mod UnderGuards
@@ -11,3 +11,12 @@ pub mod ByUses
 pub mod Sites
 pub mod Faults
 pub mod Kernel
+pub mod Types
+pub mod GuardTypes
+pub mod ValueTypes
+pub mod PlaceTypes
+pub mod PlaceKeys
+pub mod WireTypes
+pub mod MemoryTypes
+pub mod FaultOrder
+pub mod FormedKernel

@@ -19,6 +19,7 @@ pub mod KernelOf
 pub mod Layout
 pub mod Roles
 pub mod HasSlopes
+pub mod HasNames
 pub mod MadeFlows
 pub mod MadeKernel
 pub mod WireLinks

@@ -60,7 +60,7 @@ module _ (f : FlatForm) (grades : List ℕ) (t : Tables) (n : Numbers) where
 
   -- the inputs and the outputs
   module _ (names : List (List ℕ)) where
-    place_at : (p : ℕ) → p < length f.places → (place : PlaceInfo) × (slice_get f.places p ≡ Some place)
+    pub place_at : (p : ℕ) → p < length f.places → (place : PlaceInfo) × (slice_get f.places p ≡ Some place)
     place_at p below = by (slice_get f.places p) refl
       where
         by : (o : Option PlaceInfo) → slice_get f.places p ≡ o → (place : PlaceInfo) × (slice_get f.places p ≡ Some place)
@@ -93,7 +93,7 @@ module _ (f : FlatForm) (grades : List ℕ) (t : Tables) (n : Numbers) where
 
     -- the premises hold of the kernel that is made
     module _ (formed : IsWellFormed f) (main : IsMain f) (single : IsSingle f) (entries : HasNodeRanks f) (roles : AreRoles f t.roles) (layout : IsLayout f grades t n) where
-      made_so : IsMade f grades t n (kernel_of f grades t n names)
+      pub made_so : IsMade f grades t n (kernel_of f grades t n names)
       made_so = record {
         formed = formed;
         main = main;

@@ -28,7 +28,7 @@ use Rattle.zl_normal.proofs.Made.Wires.{IsMade, has_first, solved_as}
 use Rattle.zl_normal.proofs.Made.Uses.{part_guard, argument_guard, again_guard}
 use Rattle.zl_normal.proofs.Made.Forms.{all_of, any_joined, joint_there}
 
-map_length : {X Y : Type 0} (g : X → Y) (xs : List X) → length (map g xs) ≡ length xs
+pub map_length : {X Y : Type 0} (g : X → Y) (xs : List X) → length (map g xs) ≡ length xs
 map_length g [] = refl
 map_length g (x ∷ xs) = let rest = map_length g xs in cc
 

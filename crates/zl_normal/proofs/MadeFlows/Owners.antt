@@ -31,36 +31,36 @@ lasting (Last p) = Some p
 lasting key = None
 
 -- what holds of all wires of values and guards, of places
-record ForOccs (P : Key → Type 0) : Type 0 where
-  value : (j : ℕ) → P (Value j)
-  rest : (j i : ℕ) → P (Rest j i)
-  next : (j : ℕ) → P (Next j)
-  other : (j : ℕ) → P (Other j)
-  guard : (j : ℕ) → P (Guard j)
+pub record ForOccs (P : Key → Type 0) : Type 0 where
+  pub value : (j : ℕ) → P (Value j)
+  pub rest : (j i : ℕ) → P (Rest j i)
+  pub next : (j : ℕ) → P (Next j)
+  pub other : (j : ℕ) → P (Other j)
+  pub guard : (j : ℕ) → P (Guard j)
 
-record ForPlaces (P : Key → Type 0) : Type 0 where
-  place : (p : ℕ) → P (Place p)
-  between : (p : ℕ) → P (Between p)
-  motion : (p : ℕ) → P (Motion p)
-  taken : (p i : ℕ) → P (Taken p i)
-  passed : (p i : ℕ) → P (Passed p i)
-  chosen : (p i : ℕ) → P (Chosen p i)
+pub record ForPlaces (P : Key → Type 0) : Type 0 where
+  pub place : (p : ℕ) → P (Place p)
+  pub between : (p : ℕ) → P (Between p)
+  pub motion : (p : ℕ) → P (Motion p)
+  pub taken : (p i : ℕ) → P (Taken p i)
+  pub passed : (p i : ℕ) → P (Passed p i)
+  pub chosen : (p i : ℕ) → P (Chosen p i)
 
-when_all : (P : Key → Type 0) (b : Bool) (key : Key) → P key → AllByRecursion P (when b key)
+pub when_all : (P : Key → Type 0) (b : Bool) (key : Key) → P key → AllByRecursion P (when b key)
 when_all P true key e = (e, tt)
 when_all P false key e = tt
 
-joints_all : (P : Key → Type 0) (key : ℕ → Key) → ((i : ℕ) → P (key i)) → (i : ℕ) (ks : List ℕ) → AllByRecursion P (joints key i ks)
+pub joints_all : (P : Key → Type 0) (key : ℕ → Key) → ((i : ℕ) → P (key i)) → (i : ℕ) (ks : List ℕ) → AllByRecursion P (joints key i ks)
 joints_all P key h i [] = tt
 joints_all P key h i (u ∷ []) = tt
 joints_all P key h i (u ∷ v ∷ us) = (h i, joints_all P key h (suc i) (v ∷ us))
 
-each_all : {X : Type 0} (P : Key → Type 0) (g : ℕ → X → List Key) → ((i : ℕ) (x : X) → AllByRecursion P (g i x)) → (i : ℕ) (xs : List X) → AllByRecursion P (each g i xs)
+pub each_all : {X : Type 0} (P : Key → Type 0) (g : ℕ → X → List Key) → ((i : ℕ) (x : X) → AllByRecursion P (g i x)) → (i : ℕ) (xs : List X) → AllByRecursion P (each g i xs)
 each_all P g h i [] = tt
 each_all P g h i (x ∷ xs) = all-append P (g i x) (each g (suc i) xs) (h i x) (each_all P g h (suc i) xs)
 
 -- what is picked is none of those that aren't
-none_picked : (pick : Key → Option ℕ) (ks : List Key) → AllByRecursion (λ key. pick key ≡ None) ks → (key : Key) (j : ℕ) → Has ks key → pick key ≡ Some j → ⊥
+pub none_picked : (pick : Key → Option ℕ) (ks : List Key) → AllByRecursion (λ key. pick key ≡ None) ks → (key : Key) (j : ℕ) → Has ks key → pick key ≡ Some j → ⊥
 none_picked pick ks all key j h e = let n : pick key ≡ None = all-has (λ key. pick key ≡ None) ks key all h in absurd cc
 
 module _ (f : FlatForm) (grades : List ℕ) (t : Tables) where
@@ -93,10 +93,10 @@ module _ (f : FlatForm) (grades : List ℕ) (t : Tables) where
     guard_all j (Some Argument) = tt
     guard_all j (Some ForAgain) = tt
 
-    before_slope : (j : ℕ) (occ : Occ) → AllByRecursion P (value_keys f grades t j occ.form ++ guard_keys f grades t j (slice_get t.roles j))
+    pub before_slope : (j : ℕ) (occ : Occ) → AllByRecursion P (value_keys f grades t j occ.form ++ guard_keys f grades t j (slice_get t.roles j))
     before_slope j occ = all-append P (value_keys f grades t j occ.form) (guard_keys f grades t j (slice_get t.roles j)) (value_all j occ.form) (guard_all j (slice_get t.roles j))
 
-  definer_all : (P : Key → Type 0) → ForPlaces P → (p : ℕ) (call : Option ℕ) (d : Option Definer) → AllByRecursion P (definer_keys f grades t p call d)
+  pub definer_all : (P : Key → Type 0) → ForPlaces P → (p : ℕ) (call : Option ℕ) (d : Option Definer) → AllByRecursion P (definer_keys f grades t p call d)
   definer_all P o p call None = when_all P (not (is_free t call)) (Place p) (o.place p)
   definer_all P o p call (Some (Input i)) = (o.place p, tt)
   definer_all P o p call (Some (Plain b j)) = when_all P (not (is_free t call || is_guarded f t j)) (Place p) (o.place p)
@@ -105,13 +105,13 @@ module _ (f : FlatForm) (grades : List ℕ) (t : Tables) where
   definer_all P o p call (Some (Start b j)) = tt
 
   -- where it stands in the list
-  data Whence (key : Key) : Type 0 where
+  pub data Whence (key : Key) : Type 0 where
     OfFixed : Has (Step ∷ Fresh ∷ No ∷ Zero ∷ []) key → Whence key
     OfOcc : (j : ℕ) (occ : Occ) → slice_get f.occs j ≡ Some occ → Has (occ_keys f grades t j occ) key → Whence key
     OfPlace : (p : ℕ) (place : PlaceInfo) → slice_get f.places p ≡ Some place → Has (place_keys f grades t p place) key → Whence key
     OfAgain : Has (joints Again 0 f.again) key → Whence key
 
-  whence : (key : Key) → Has (keys f grades t) key → Whence key
+  pub whence : (key : Key) → Has (keys f grades t) key → Whence key
   whence key h = by_index h.index h.is
     where
       occ_entry : ByEntry (occ_keys f grades t) 0 f.occs key → Whence key
