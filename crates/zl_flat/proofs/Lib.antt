@@ -1,5 +1,6 @@
 pub mod CheckedLasts
 pub mod CheckedPrograms
+pub mod CheckedShown
 pub mod CheckedTypes
 pub mod ContextSteps
 pub mod Copies
@@ -54,6 +55,7 @@ pub mod RegularPlaces
 pub mod RegularProgram
 pub mod RegularUses
 pub mod RulesKept
+pub mod ShownResults
 pub mod SizeSteps
 pub mod StructParts
 pub mod ThinTree

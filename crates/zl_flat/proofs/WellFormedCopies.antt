@@ -98,6 +98,7 @@ pub record NameStands (f : FlatForm) (i : Instance) (id : ℕ) (c : VarClass) : 
   pub is : variable_of i.variables id ≡ Some variable
   pub stands : VariableStands f variable
   pub block : is_local c ≡ false → stands.place.block ≡ i.block
+  pub named : stands.place.name ≡ id
 
 -- the variable of this entry stands
 abbrev pub InfoStands : FlatForm → Instance → VarInfo → Type 0
@@ -107,7 +108,7 @@ name-stands : (f : FlatForm) (i : Instance) (call : Option ℕ) (m : Mention) �
 name-stands f i call m h p =
     let is = subst (λ k. slice_get f.places k ≡ Some p.place) (sym h.place) p.is in
     let stands : VariableStands f h.variable = record { place = p.place; is = is; typed = p.typed ∙ ap place_type h.is } in
-    record { variable = h.variable; is = h.is; stands = stands; block = p.block }
+    record { variable = h.variable; is = h.is; stands = stands; block = p.block; named = p.named }
 
 entries-stand : (f : FlatForm) (i : Instance) (call : Option ℕ) (ms : List Mention) → AllByRecursion (λ (m : Mention). HasNumber i.variables m.name.id m.number) ms → AllByRecursion (MentionPlaced f i call) ms → AllByRecursion (InfoStands f i) (as_entries ms)
 entries-stand f i call [] h p = tt
@@ -142,7 +143,7 @@ module _ (f : FlatForm) (base : ℕ) (names : List (List ℕ)) (i : Instance) (k
 
   params-placed : (ps : List Param) (here : Here) → here.block ≡ i.block → (n : ℕ) → AllFrom (IsPlaceAt f) n (map (param_place i here) ps) → AllByRecursion (MentionPlaced f i here.call) (param_mentions n ps)
   params-placed [] here inside n h = tt
-  params-placed (p ∷ ps) here inside n h = let a = h.0 in (record { place = a.place; is = a.is; typed = a.typed; block = λ e. a.block ∙ inside; in_copy = a.call }, params-placed ps here inside (n + 1) h.1)
+  params-placed (p ∷ ps) here inside n h = let a = h.0 in (record { place = a.place; is = a.is; typed = a.typed; block = λ e. a.block ∙ inside; in_copy = a.call; named = a.named }, params-placed ps here inside (n + 1) h.1)
 
   -- where the places behind the parameters begin
   pub params-next : (s : Counters) (xs : List PlaceInfo) (definers : List Given) → (after s (joined (some_places xs) (some_definers definers))).places ≡ s.places + length xs

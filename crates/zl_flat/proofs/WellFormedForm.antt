@@ -61,7 +61,7 @@ from-any P n m (x ∷ xs) h = (h.0, from-any P (n + 1) (m + 1) xs h.1)
 -- ---- places
 
 place-at : (f : FlatForm) (n : ℕ) (x : PlaceInfo) (ds : List Definer) → slice_get f.places n ≡ Some (with_definers x ds) → IsPlaceAt f n x
-place-at f n x ds is = record { place = with_definers x ds; is = is; block = refl; call = refl; typed = refl }
+place-at f n x ds is = record { place = with_definers x ds; is = is; block = refl; call = refl; typed = refl; named = refl }
 
 places-sit : (f : FlatForm) (gs : List Given) (n : ℕ) (xs : List PlaceInfo) → AllFrom (λ m x. slice_get f.places m ≡ Some x) n (defined_places gs n xs) → AllFrom (λ m x. IsPlaceAt f m x) n xs
 places-sit f gs n [] h = tt

@@ -43,6 +43,7 @@ pub record IsPlaceAt (f : FlatForm) (p : ℕ) (x : PlaceInfo) : Type 0 where
   pub block : place.block ≡ x.block
   pub call : place.call ≡ x.call
   pub typed : place.ty ≡ x.ty
+  pub named : place.name ≡ x.name
 
 -- an `up` stands in the block of its site
 abbrev pub HasSite : FlatForm → ℕ → Form → Type 0

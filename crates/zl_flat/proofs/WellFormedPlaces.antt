@@ -41,6 +41,7 @@ pub record MentionPlaced (f : FlatForm) (i : Instance) (call : Option ℕ) (m : 
   pub typed : place.ty ≡ place_type (variable_of i.variables m.name.id)
   pub block : is_local m.class ≡ false → place.block ≡ i.block
   pub in_copy : place.call ≡ call
+  pub named : place.name ≡ m.name.id
 
 -- where the next numbers are those of the mentions
 pub next-places : (s : Counters) (n : ℕ) (p : Parts) (z : Size) (next : ℕ) → s.places ≡ n → AsMany p z → next ≡ n + z.places → (after s p).places ≡ next
@@ -88,7 +89,7 @@ module _ (f : FlatForm) (base : ℕ) (names : List (List ℕ)) (i : Instance) (k
       placed first =
           let own = place_here here (place_type (variable_of i.variables x.id)) x.id x.at in
           let a : IsPlaceAt f s.places own = the_place (standing f base) s own (subst (λ b. Sits f base s (if b then one_place own else nothing)) first sits) in
-          record { place = a.place; is = subst (λ k. slice_get f.places k ≡ Some a.place) at a.is; typed = a.typed; block = λ e. a.block ∙ inside e; in_copy = a.call }
+          record { place = a.place; is = subst (λ k. slice_get f.places k ≡ Some a.place) at a.is; typed = a.typed; block = λ e. a.block ∙ inside e; in_copy = a.call; named = a.named }
 
   -- names one behind the other
   pub names-placed : (c : VarClass) (xs : List Name) (here : Here) → (is_local c ≡ false → here.block ≡ i.block) → (s : Counters) (n : ℕ) → s.places ≡ n → Sits f base s (names_made base names i xs here s) → AllPlaced here.call (mention.of_names i.infos known c xs n).all

@@ -78,6 +78,7 @@ pub record DeclaredHere (f : FlatForm) (i : Instance) (b id : ℕ) : Type 0 wher
   pub place : PlaceInfo
   pub place_is : slice_get f.places variable.place ≡ Some place
   pub within : IsWithin f place.block b
+  pub named : place.name ≡ id
 
 -- the variable of this name has a place in the form, and is no constant
 pub record IsOwn (f : FlatForm) (k : Known) (id : ℕ) (v : Variable) : Type 0 where
@@ -90,7 +91,7 @@ CoversPlaces f i b visible = (id : ℕ) → among visible id ≡ true → Declar
 
 -- what is declared by a block is declared for those that stand in it
 pub covers-inside : (f : FlatForm) (i : Instance) (b inner : ℕ) (visible : List ℕ) → parent_of f inner ≡ Some b → CoversPlaces f i b visible → CoversPlaces f i inner visible
-covers-inside f i b inner visible e c id is = let a = c id is in record { variable = a.variable; is = a.is; place = a.place; place_is = a.place_is; within = Inside inner b e a.within }
+covers-inside f i b inner visible e c id is = let a = c id is in record { variable = a.variable; is = a.is; place = a.place; place_is = a.place_is; within = Inside inner b e a.within; named = a.named }
 
 module _ (f : FlatForm) (base : ℕ) where
   -- ---- parts

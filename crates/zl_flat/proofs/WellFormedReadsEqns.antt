@@ -162,6 +162,7 @@ module _ (f : FlatForm) (base : ℕ) (names : List (List ℕ)) (i : Instance) (k
         place = a.place;
         place_is = subst (λ p. slice_get f.places p ≡ Some a.place) (at ∙ sym h.place) a.is;
         within = subst (λ b. IsWithin f b here.block) (sym a.block) Same;
+        named = a.named;
       }
 
   locals-declared : (xs : List Name) (here : Here) (s : Counters) (n : ℕ) → s.places ≡ n → AllByRecursion (λ (x : Name). is_first i.infos x ≡ true) xs → AllNumbered i (mention.of_names i.infos known class.Local xs n).all →

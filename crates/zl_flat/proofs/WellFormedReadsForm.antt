@@ -54,7 +54,7 @@ covers-visible f i ids (x ∷ infos) c h = covers-visible f i (if not (is_local 
     declared e =
         let a = h.0 in
         let v = a.stands in
-        record { variable = a.variable; is = a.is; place = v.place; place_is = v.is; within = subst (λ b. IsWithin f b i.block) (sym (a.block e)) Same }
+        record { variable = a.variable; is = a.is; place = v.place; place_is = v.is; within = subst (λ b. IsWithin f b i.block) (sym (a.block e)) Same; named = a.named }
 
     by_class : (b : Bool) → is_local x.class ≡ b → CoversPlaces f i i.block (if not b then with_id ids x.name else ids)
     by_class true e = c

@@ -41,7 +41,7 @@ use Rattle.zl_flat.proofs.WellFormedReadsForm.{params-sit, scoped-covers, scoped
 
 -- ---- main
 
-listed-get : (m a j : ℕ) → j < m → slice_get (listed m a (λ n. n)) j ≡ Some (a + j)
+pub listed-get : (m a j : ℕ) → j < m → slice_get (listed m a (λ n. n)) j ≡ Some (a + j)
 listed-get zero a j lt = absurd (omega (arith, lt))
 listed-get (suc m) a zero lt = ap Some (no_more a)
   where

@@ -18,3 +18,4 @@ pub mod Checked
 pub mod WorkedTexts
 pub mod Counted
 pub mod Lasts
+pub mod Shown

@@ -1,6 +1,7 @@
 //! Laws of the definitions. Each is a function without a body, whose contract is the law.
 ghost use Rattle.zl_flat.specs.Counted.{CountsAreLengths, CountIsSmall, PlacesAreNumbered};
 ghost use Rattle.zl_flat.specs.Lasts.{LastsStandInCopies};
+ghost use Rattle.zl_flat.specs.Shown.{FormsShowOutward};
 ghost use Rattle.zl_flat.specs.Worked.{CallingExpands, FallingExpands};
 ghost use Rattle.zl_flat.specs.WorkedTexts.{OneForm, ResetBlockExpands, TwoTanksExpands, WaitingExpands};
 
@@ -54,4 +55,10 @@ pub fn places_are_numbered()
 /// A `last` of a place in the copy of a call stands in that copy: its call is that one, or stands in the copy itself.
 pub fn lasts_stand_in_copies()
     ensures { LastsStandInCopies }
+{}
+
+/// The flat form of a program that keeps the rules has an output, its inputs and its outputs have names of the file, and no two
+/// inputs have one name.
+pub fn forms_show_outward()
+    ensures { FormsShowOutward }
 {}
