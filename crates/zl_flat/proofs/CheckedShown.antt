@@ -44,7 +44,7 @@ not_both : {c : Bool} → c ≡ true → c ≡ false → ⊥
 not_both e g = cc
 
 -- what holds of each name of a list holds of each that is found in it
-get-all : (P : List ℕ → Type 0) (names : List (List ℕ)) → AllByRecursion P names → (k : ℕ) → k < length names → P (get_or names k [])
+pub get-all : (P : List ℕ → Type 0) (names : List (List ℕ)) → AllByRecursion P names → (k : ℕ) → k < length names → P (get_or names k [])
 get-all P [] h k lt = absurd (omega (arith, lt))
 get-all P (x ∷ xs) h zero lt = h.0
 get-all P (x ∷ xs) h (suc k) lt = get-all P xs h.1 k (omega (arith, lt))

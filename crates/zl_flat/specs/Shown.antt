@@ -28,7 +28,7 @@ pub record ShowsOutward (names : List (List ℕ)) (f : FlatForm) : Type 0 where
   -- its inputs and its outputs have names
   pub ins : AllByRecursion (IsNamed names f) f.ins
   pub outs : AllByRecursion (IsNamed names f) f.outs
-  -- no two inputs have one name, be it that of two numbers
+  -- no two inputs have names of the same bytes
   pub differ : (m n : ℕ) (a b : PlaceInfo) → IsInputAt f m a → IsInputAt f n b → get_or names a.name [] ≡ get_or names b.name [] → m ≡ n
 
 -- So can the flat form of each program that keeps the rules, with the names of its file.
