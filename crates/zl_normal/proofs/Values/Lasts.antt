@@ -1,5 +1,5 @@
 -- A `last` is evaluated only where the call of its place is, by the guards of a normal form.
-use Rattle.std.specs.Prelude.{◌≡◌, ℕ, Bool, true, false, ◌&&◌, List, [], Option, Some, None}
+use Rattle.std.specs.Prelude.{◌≡◌, ℕ, Bool, true, false, ◌&&◌, List, [], ◌∷◌, Option, Some, None, IfSome}
 use Rattle.std.specs.Option.{option_and_then}
 use Rattle.std.proofs.Common.{refl, sym, ap, ◌∙◌, subst}
 use Rattle.zl_value.specs.Lists.{Has}
@@ -13,7 +13,7 @@ use Rattle.zl_kernel.specs.Wires.{Registers, held, is_open, turn, Moment}
 use Rattle.zl_normal.specs.Wiring.{Wiring, call_guard}
 use Rattle.zl_normal.specs.FormWires.{IsOcc, IsCall}
 use Rattle.zl_normal.specs.UseGuards.{IsGuardFor, IsGuardBy, Unused, Once, OfCall, OfBranches}
-use Rattle.zl_normal.specs.Evaluated.{owner_of, IsOnlyWith, Itself, ByUses, ByCall, KeepsLasts}
+use Rattle.zl_normal.specs.Evaluated.{owner_of, IsOnlyWith, Itself, ByUses, ByCall, Outside, KeepsLasts}
 use Rattle.zl_normal.specs.Normal.{IsNormalAtInstants}
 use Rattle.zl_normal.proofs.Wires.Solved.{under_is, but_is, either_is}
 use Rattle.zl_normal.proofs.Instants.Follows.{some_is, LastsCalled}
@@ -85,6 +85,16 @@ module _ (f : FlatForm) (k : KernelForm) (N : Wiring) (normal : IsNormalAtInstan
       let same_call : there.0.call ≡ Some by = ap (λ x. option_and_then (λ (occ : Occ). occ.call) x) (sym there.1) ∙ of in
       let u = by_call j there.0.call (N.G j) (uses_of f j) refl (normal.guards j there.0 there.1) unused by same_call in
       opens call by inner u.0 (u.1 o)
+  opens call j (Outside _ occ is unused outer) there o = open_outside occ.call outer (unused_guard (uses_of f call) refl (normal.guards call occ is))
+    where
+      -- the guard of what nothing uses is that of its call
+      unused_guard : (uses : List Use) → uses_of f call ≡ uses → IsGuardBy f k N occ.call (N.G call) uses → N.G call ≡ call_guard N occ.call
+      unused_guard [] e (Unused of_call same) = same
+      unused_guard (of ∷ uses) e guard = absurd (unused of (use-of-listed f call of (subst (λ l. Has l of) (sym e) (record { index = 0; is = refl }))))
+
+      open_outside : (outer : Option ℕ) → IfSome outer (λ by. by ≡ j) → N.G call ≡ call_guard N outer → is_open (held r) (N.G call) ≡ true
+      open_outside None is_none e = ap (λ g. is_open (held r) g) e
+      open_outside (Some by) same e = ap (λ g. is_open (held r) g) (e ∙ ap (λ x. N.G x) same) ∙ o
 
   pub lasts_called : KeepsLasts f → LastsCalled f k N r
   lasts_called keeps j p occ place at form is o = by place.call refl
