@@ -1,152 +1,248 @@
--- What `last` stands in is evaluated only with the call in whose copy it stands.
-use Rattle.std.specs.Prelude.{◌≡◌, ◌⊎◌, ℕ, zero, suc, ◌-◌, ◌<◌, List, [], ◌∷◌, length, slice_get, Option, Some, None}
+-- What stands in the copy of a call, other than the argument of a site, is evaluated only with that call.
+use Rattle.std.specs.Prelude.{◌≡◌, ◌⊎◌, ℕ, zero, suc, ◌-◌, ◌<◌, List, [], ◌∷◌, length, slice_get, Option, Some, None, IfSome}
 use Rattle.std.specs.Option.{option_map, option_and_then}
 use Rattle.std.proofs.Common.{refl, sym, ap, ◌∙◌, subst, ⊎_elim, inl, inr, arith}
 use Rattle.std.proofs.lemmas.Option.{slice_get_within}
 use Rattle.zl_value.specs.Lists.{Has}
-use Rattle.zl_meaning.specs.FlatForm.{FlatForm, HasForm, call_of}
-use Rattle.zl_meaning.specs.Uses.{Use, PartOf, BranchOf, DefinerOf, SlopeOf, EventOf, StartOf, ResetOf, TestOf, ArgumentOf, AgainOf, IsUse, AsAgain, parts, uses_of}
+use Rattle.zl_meaning.specs.FlatForm.{FlatForm, HasForm, CalledIn, Here, CalledIn.Inside as Further, call_of, place_call}
+use Rattle.zl_meaning.specs.Uses.{Use, PartOf, BranchOf, DefinerOf, SlopeOf, EventOf, StartOf, ResetOf, TestOf, ArgumentOf, AgainOf, IsUse, IsUnused, uses_of}
 use Rattle.zl_meaning.specs.Branches.{IsPart}
-use Rattle.zl_meaning.specs.Copies.{IsByDefiner}
-use Rattle.zl_meaning.specs.Regular.{Context, Plainly, WithLast, Discrete, Hybrid, context_of_block, branch_context, part_context, use_context, form_in, is_hybrid_block, IsAllowed, IsRegular}
-use Rattle.zl_meaning.specs.WellFormed.{IsWellFormed, IsAgain}
+use Rattle.zl_meaning.specs.Copies.{IsByDefiner, IsOfUnused}
+use Rattle.zl_meaning.specs.Regular.{Context, Plainly, WithLast, Discrete, context_of_block, body_context, called_context, branch_context, part_context, use_context, form_in, is_hybrid_block, IsAllowed, IsRegular}
+use Rattle.zl_meaning.specs.WellFormed.{IsWellFormed, IsCalled}
 use Rattle.zl_meaning.specs.declared.occurrence.Form.{Form}
 use Rattle.zl_meaning.specs.declared.occurrence.Form.TheVariants.{Lit, Read, Last, Op as Apply, If, Arrow, Pre, Result, Up, Fired, Step}
 use Rattle.zl_meaning.specs.declared.occurrence.Occ.{Occ}
+use Rattle.zl_meaning.specs.declared.place.PlaceInfo.{PlaceInfo}
 use Rattle.zl_meaning.proofs.Greatest.{most_below, below-most}
-use Rattle.zl_meaning.proofs.Members.{all-has, has-cases, has-none}
 use Rattle.zl_meaning.proofs.UseCases.{use-of-listed}
 use Rattle.zl_meaning.proofs.WrittenForms.{some-same}
 use Rattle.zl_meaning.proofs.GradesKept.UsesSay.{none-listed, whole-of-part, whole-of-branch}
-use Rattle.zl_normal.specs.Evaluated.{owner_of, IsOnlyWith, Itself, ByUses, ByCall, KeepsLasts}
+use Rattle.zl_normal.specs.Evaluated.{owner_of, IsOnlyWith, Itself, ByUses, ByCall, Outside, KeepsLasts}
 use Rattle.zl_normal.specs.MainBlock.{IsMain}
-use Rattle.zl_premises.specs.Lasts.{HasOwnLasts, NamesOwn}
+use Rattle.zl_premises.specs.Lasts.{HasLastsInCopies}
+use Rattle.zl_premises.proofs.CalmCopies.{IsCalm, CalmCall, IsThere, has_call, again_called, event_slope, reset_slope, no_slope, no_start}
 use Rattle.zl_premises.proofs.Untested.{no_test}
 
--- the contexts in which `last` may stand
-abbrev MayLast : Context → Type 0
-MayLast c = (c ≡ WithLast) ⊎ (c ≡ Discrete)
+-- combinatorial without `last`: so are the arguments of sites
+abbrev IsPlain : Context → Type 0
+IsPlain c = c ≡ Plainly
 
-plainly_not : (c : Context) → c ≡ Plainly → MayLast c → ⊥
-plainly_not c e (inl p) = let z : Plainly ≡ WithLast = sym e ∙ p in let g : ⊥ = cc in g
-plainly_not c e (inr p) = let z : Plainly ≡ Discrete = sym e ∙ p in let g : ⊥ = cc in g
+plain_calm : (c : Context) → IsPlain c → IsCalm c
+plain_calm c e = subst (λ x. IsCalm x) (sym e) tt
 
--- a branch has one where its whole has
-branch_last : (c : Context) → MayLast (branch_context c) → MayLast c
-branch_last Plainly m = m
-branch_last WithLast m = m
-branch_last Discrete m = inr refl
-branch_last Hybrid m = absurd (plainly_not Plainly refl m)
+plain_body : (block c : Context) → IsPlain c → IsPlain (body_context block c)
+plain_body block c e = ap (λ x. body_context block x) e
 
--- and so has a part, but the result of a call
-part_last : (block c : Context) (form : Form) → IsAllowed c form → ((x : ℕ) → form ≡ Result x → ⊥) → MayLast (part_context block c (Some form)) → MayLast c
-part_last block c (Arrow x y) a not m = inr a
-part_last block c (Pre x) a not m = inr a
-part_last block c (Result x) a not m = absurd (not x refl)
-part_last block c (Lit v) a not m = m
-part_last block c (Read v) a not m = m
-part_last block c (Last v) a not m = m
-part_last block c (Apply op ks) a not m = m
-part_last block c (If x y z) a not m = m
-part_last block c (Up v) a not m = m
-part_last block c (Fired v) a not m = m
-part_last block c Step a not m = m
+plain_branch : (c : Context) → IsPlain c → IsPlain (branch_context c)
+plain_branch c e = ap (λ x. branch_context x) e
+
+-- all that is a part there is plain
+plain_part : (block c : Context) (form : Form) → IsAllowed c form → IsPlain c → IsPlain (part_context block c (Some form))
+plain_part block c (Arrow x y) a e = absurd (let z : Plainly ≡ Discrete = sym e ∙ a in let g : ⊥ = cc in g)
+plain_part block c (Pre x) a e = absurd (let z : Plainly ≡ Discrete = sym e ∙ a in let g : ⊥ = cc in g)
+plain_part block c (Result x) a e = plain_body block c e
+plain_part block c (Lit v) a e = e
+plain_part block c (Read v) a e = e
+plain_part block c (Last v) a e = e
+plain_part block c (Apply op ks) a e = e
+plain_part block c (If x y z) a e = e
+plain_part block c (Up v) a e = e
+plain_part block c (Fired v) a e = e
+plain_part block c Step a e = absurd a
+
+-- `last` stands nowhere there
+last_not_plain : (c : Context) (p : ℕ) → IsAllowed c (Last p) → IsPlain c → ⊥
+last_not_plain c p (inl a) e = let z : Plainly ≡ WithLast = sym e ∙ a in let g : ⊥ = cc in g
+last_not_plain c p (inr a) e = let z : Plainly ≡ Discrete = sym e ∙ a in let g : ⊥ = cc in g
 
 abbrev or_none : Option ℕ → ℕ
 or_none None = 0
 or_none (Some n) = n
 
-module _ (f : FlatForm) (well : IsWellFormed f) (main : IsMain f) (regular : IsRegular f) (names : NamesOwn f) (call : ℕ) where
+-- what stands in the copy of a call has a call, which is that one or stands in its copy
+record IsCalledIn (f : FlatForm) (call k : ℕ) : Type 0 where
+  pub inner : ℕ
+  pub is : call_of f k ≡ Some inner
+  pub further : (inner ≡ call) ⊎ CalledIn f call inner
+
+called_in : (f : FlatForm) (call k : ℕ) → CalledIn f call k → IsCalledIn f call k
+called_in f call _ (Here k e) = record { inner = call; is = e; further = inl refl }
+called_in f call _ (Further k inner e rest) = record { inner = inner; is = e; further = inr rest }
+
+-- what stands in it is an occurrence, and so is what stands beside it
+called_there : (f : FlatForm) (call k : ℕ) → CalledIn f call k → IsThere f k
+called_there f call k inside = let r = called_in f call k inside in has_call f k r.inner r.is
+
+called_with : (f : FlatForm) (call k inner : ℕ) → call_of f k ≡ Some inner → (inner ≡ call) ⊎ CalledIn f call inner → CalledIn f call k
+called_with f call k inner e (inl same) = Here k (e ∙ ap (λ n. Some n) same)
+called_with f call k inner e (inr rest) = Further k inner e rest
+
+-- so is the call of a place
+place_there : (f : FlatForm) → IsWellFormed f → (p call : ℕ) → place_call f p ≡ Some call → IsThere f call
+place_there f well p call at = by (slice_get f.places p) refl at
+  where
+    by : (entry : Option PlaceInfo) → slice_get f.places p ≡ entry → option_and_then (λ (place : PlaceInfo). place.call) entry ≡ Some call → IsThere f call
+    by None is e = absurd cc
+    by (Some place) is e = let called = subst (λ o. IsCalled f place.block o) e (well.places p place is).call in (called.0, called.1)
+
+module _ (f : FlatForm) (well : IsWellFormed f) (main : IsMain f) (regular : IsRegular f) (call : ℕ) (named : IsUnused f call → call_of f call ≡ None → ⊥) where
+  abbrev Only : ℕ → Type 0
+  Only = IsOnlyWith f call
+
+  abbrev Plain : ℕ → Type 0
+  Plain k = IsPlain (regular.context k)
+
   -- the owner of the use is evaluated only with the call
   record IsOwned (of : Use) : Type 0 where
     pub owner : ℕ
     pub is : owner_of of ≡ Some owner
-    pub only : IsOnlyWith f call owner
+    pub only : Only owner
 
-  itself : (k : ℕ) → call_of f k ≡ Some call → (owner : ℕ) → call_of f k ≡ Some owner → IsOnlyWith f call owner
-  itself k e owner is = subst (λ x. IsOnlyWith f call x) (some-same (sym e ∙ is)) Itself
+  -- of one that stands in the copy, all that is higher and stands there is known
+  module _ (k : ℕ) (occ : Occ) (is : slice_get f.occs k ≡ Some occ) (plain_not : Plain k → ⊥) (at : IsCalledIn f call k) (above : (k_above : ℕ) → IsThere f k_above → well.heights.height k < well.heights.height k_above → (Plain k_above → ⊥) → CalledIn f call k_above → Only k_above) where
+    abbrev block : Context
+    block = context_of_block (is_hybrid_block f occ.block)
 
-  -- no call stands in its own copy
-  not_inside : (whole : ℕ) (occ : Occ) → slice_get f.occs whole ≡ Some occ → call_of f whole ≡ Some whole → ⊥
-  not_inside whole occ is e =
-      let low = well.heights.calls whole whole occ is (sym (ap (option_and_then (λ (o : Occ). o.call)) is) ∙ e) in let z : ⊥ = omega (arith, low) in z
-
-  module _ (k : ℕ) (occ : Occ) (is : slice_get f.occs k ≡ Some occ) (may : MayLast (regular.context k)) (at : call_of f k ≡ Some call) (above : (whole : ℕ) → IsPart f k whole → MayLast (regular.context whole) → call_of f whole ≡ Some call → IsOnlyWith f call whole) where
-    context_is : (of : Use) → IsUse f k of → regular.context k ≡ use_context regular.context (form_in f) (context_of_block (is_hybrid_block f occ.block)) of
+    context_is : (of : Use) → IsUse f k of → regular.context k ≡ use_context regular.context (form_in f) block of
     context_is of used = (regular.occs k occ is).contexts of used
 
+    refuse : (of : Use) → IsUse f k of → IsPlain (use_context regular.context (form_in f) block of) → ⊥
+    refuse of used e = plain_not (context_is of used ∙ e)
+
+    -- its call
+    own_call : occ.call ≡ Some at.inner
+    own_call = sym (ap (option_and_then (λ (o : Occ). o.call)) is) ∙ at.is
+
+    inner_only : (Plain at.inner → ⊥) → Only at.inner
+    inner_only not = ⊎_elim (λ same. subst Only (sym same) Itself) further at.further
+      where
+        further : CalledIn f call at.inner → Only at.inner
+        further rest = above at.inner (called_there f call at.inner rest) (well.heights.calls k at.inner occ is own_call) not rest
+
     -- a whole
-    by_whole : (whole : ℕ) (part : IsPart f k whole) → (call_of f k ≡ call_of f whole → MayLast (regular.context whole)) → IsOnlyWith f call whole
-    by_whole whole part of =
-        ⊎_elim (λ same. above whole part (of same) (sym same ∙ at)) (λ inner. itself k at whole inner) (regular.copies.parts k whole part)
+    whole_only : (whole : ℕ) → IsPart f k whole → (Plain whole → ⊥) → Only whole
+    whole_only whole part not = ⊎_elim outside (λ inner. let same : at.inner ≡ whole = some-same (sym at.is ∙ inner) in subst Only same (inner_only (λ e. not (subst Plain same e)))) (regular.copies.parts k whole part)
+      where
+        outside : call_of f k ≡ call_of f whole → Only whole
+        outside same = above whole (part.occ, part.is) (well.heights.parts whole k part.occ part.is part.part) not (called_with f call whole at.inner (sym same ∙ at.is) at.further)
 
-    result_not : (whole : ℕ) (part : IsPart f k whole) → call_of f k ≡ call_of f whole → (x : ℕ) → part.occ.form ≡ Result x → ⊥
-    result_not whole part same x e =
-        let here : Has (x ∷ []) k = subst (λ form. Has (parts form) k) e part.part in
-        let one : x ≡ k = has-cases (x ≡ k) x [] k here (λ q. q) (λ q. absurd (has-none k q)) in
-        let inner : call_of f k ≡ Some whole = subst (λ j. call_of f j ≡ Some whole) one (regular.copies.results x whole (part.occ, part.is, e)) in
-        not_inside whole part.occ part.is (sym same ∙ inner)
+    -- a definer of a place in the copy of a call that isn't plain
+    module _ (of : Use) (own : Option ℕ) (used : IsUse f k of) (by : IsByDefiner of own) (owns : owner_of of ≡ own) (not : (c : ℕ) → own ≡ Some c → Plain c → ⊥) where
+      owned_as : (c : ℕ) → own ≡ Some c → Only c → IsOwned of
+      owned_as c e only = record { owner = c; is = owns ∙ e; only = only }
 
-    part_may : (whole : ℕ) → IsUse f k (PartOf whole) → (part : IsPart f k whole) → call_of f k ≡ call_of f whole → MayLast (regular.context whole)
-    part_may whole used part same =
-        part_last (context_of_block (is_hybrid_block f occ.block)) (regular.context whole) part.occ.form (regular.occs whole part.occ part.is).allowed (result_not whole part same)
-        (subst (λ form. MayLast (part_context (context_of_block (is_hybrid_block f occ.block)) (regular.context whole) form)) (ap (λ o. option_map (λ (z : Occ). z.form) o) part.is)
-        (subst (λ c. MayLast c) (context_is (PartOf whole) used) may))
+      owned_inside : call_of f k ≡ own → IsOwned of
+      owned_inside same = let e : own ≡ Some at.inner = sym same ∙ at.is in owned_as at.inner e (inner_only (not at.inner e))
 
-    by_definer : (of : Use) (own : Option ℕ) → IsUse f k of → IsByDefiner of own → owner_of of ≡ own → IsOwned of
-    by_definer of own used by owns = record { owner = call; is = owns ∙ sym (names k of own used by) ∙ at; only = Itself }
+      -- the result of `call` itself, which nothing uses
+      owned_outside : IsUnused f call → (c : Option ℕ) → own ≡ c → call_of f call ≡ c → IsOwned of
+      owned_outside unused None e is_call = absurd (named unused is_call)
+      owned_outside unused (Some c) e is_call =
+          let there = has_call f call c is_call in
+          let same : (there.0).call ≡ Some c = sym (ap (option_and_then (λ (o : Occ). o.call)) there.1) ∙ is_call in
+          owned_as c e (Outside c there.0 there.1 unused (subst (λ o. IfSome o (λ outer. outer ≡ c)) (sym same) refl))
+
+      -- the result of a call that stands in the copy
+      owned_between : CalledIn f call at.inner → call_of f at.inner ≡ own → IsOwned of
+      owned_between rest outer =
+          let r = called_in f call at.inner rest in
+          let e : own ≡ Some r.inner = sym outer ∙ r.is in
+          let there = called_there f call at.inner rest in
+          let low = well.heights.calls k at.inner occ is own_call in
+          let high = well.heights.calls at.inner r.inner there.0 there.1 (sym (ap (option_and_then (λ (o : Occ). o.call)) there.1) ∙ r.is) in
+          owned_as r.inner e (⊎_elim (λ same. subst Only (sym same) Itself) (λ further. above r.inner (called_there f call r.inner further) (omega (arith, low, high)) (not r.inner e) further) r.further)
+
+      of_unused : IsOfUnused f own k → IsOwned of
+      of_unused u =
+          let same : at.inner ≡ u.whole = some-same (sym at.is ∙ u.of) in
+          ⊎_elim (λ e. let whole : u.whole ≡ call = sym same ∙ e in owned_outside (subst (λ n. IsUnused f n) whole u.unused) own refl (subst (λ n. call_of f n ≡ own) whole u.outer))
+          (λ rest. owned_between rest (subst (λ n. call_of f n ≡ own) (sym same) u.outer)) at.further
+
+      owned_by_definer : IsOwned of
+      owned_by_definer = ⊎_elim owned_inside of_unused (regular.copies.definers k of own used by)
+
+    -- what is called in a plain copy is plain
+    not_called : (of : Use) (own : Option ℕ) → IsUse f k of → use_context regular.context (form_in f) block of ≡ called_context regular.context block own → (c : ℕ) → own ≡ Some c → Plain c → ⊥
+    not_called of own used same c e plain =
+        refuse of used (same ∙ ap (λ o. called_context regular.context block o) e ∙ plain_body block (regular.context c) plain)
+
+    calm_in : (own : Option ℕ) (c : ℕ) → own ≡ Some c → Plain c → CalmCall f well main regular own
+    calm_in own c e plain = subst (λ o. CalmCall f well main regular o) (sym e) (plain_calm (regular.context c) plain)
+
+    no_der : (own : Option ℕ) → (slope : ℕ) × IsThere f slope × IsUse f slope (SlopeOf own) → (c : ℕ) → own ≡ Some c → Plain c → ⊥
+    no_der own der c e plain = no_slope f well main regular der.0 own der.2 der.1.0 der.1.1 (calm_in own c e plain)
 
     owned : (of : Use) → IsUse f k of → IsOwned of
     owned (PartOf whole) used =
-        let part = whole-of-part f k whole used in record { owner = whole; is = refl; only = by_whole whole part (part_may whole used part) }
+        let part = whole-of-part f k whole used in
+        record {
+          owner = whole;
+          is = refl;
+          only = whole_only whole part (λ e.
+              refuse (PartOf whole) used (subst (λ form. IsPlain (part_context block (regular.context whole) form)) (sym (ap (option_map (λ (z : Occ). z.form)) part.is))
+              (plain_part block (regular.context whole) part.occ.form (regular.occs whole part.occ part.is).allowed e)));
+        }
     owned (BranchOf whole c side) used = record {
       owner = whole;
       is = refl;
-      only = by_whole whole (whole-of-branch f k whole c side used) (λ same. branch_last (regular.context whole) (subst (λ x. MayLast x) (context_is (BranchOf whole c side) used) may));
+      only = whole_only whole (whole-of-branch f k whole c side used) (λ e. refuse (BranchOf whole c side) used (plain_branch (regular.context whole) e));
     }
-    owned (DefinerOf own) used = by_definer (DefinerOf own) own used refl refl
-    owned (SlopeOf own) used = by_definer (SlopeOf own) own used refl refl
-    owned (EventOf own) used = by_definer (EventOf own) own used refl refl
-    owned (StartOf own b) used = by_definer (StartOf own b) own used refl refl
-    owned (ResetOf own events arm) used = by_definer (ResetOf own events arm) own used refl refl
+    owned (DefinerOf own) used = owned_by_definer (DefinerOf own) own used refl refl (not_called (DefinerOf own) own used refl)
+    owned (SlopeOf own) used = owned_by_definer (SlopeOf own) own used refl refl (not_called (SlopeOf own) own used refl)
+    owned (EventOf own) used = owned_by_definer (EventOf own) own used refl refl (no_der own (event_slope f well k own used))
+    owned (StartOf own b) used = owned_by_definer (StartOf own b) own used refl refl (λ c e plain. no_start f well main regular k b own used occ is (calm_in own c e plain))
+    owned (ResetOf own events arm) used = owned_by_definer (ResetOf own events arm) own used refl refl (no_der own (reset_slope f well k own events arm used))
     owned TestOf used = absurd (no_test f main well k used)
-    owned ArgumentOf used = absurd (plainly_not (regular.context k) (context_is ArgumentOf used) may)
-    owned AgainOf used = absurd (of_again used)
-      where
-        of_again : IsUse f k AgainOf → ⊥
-        of_again (AsAgain h) =
-            let again : IsAgain f k = all-has (IsAgain f) f.again k well.again h in
-            let none : call_of f k ≡ None = ap (option_and_then (λ (o : Occ). o.call)) again.is ∙ again.call in
-            let z : None ≡ Some call = sym none ∙ at in
-            let g : ⊥ = cc in
-            g
+    owned ArgumentOf used = absurd (refuse ArgumentOf used refl)
+    owned AgainOf used = absurd (again_called f well k at.inner used at.is)
 
-    only_with : IsOnlyWith f call k
+    only_with : Only k
     only_with = by_uses (uses_of f k) refl
       where
-        by_uses : (us : List Use) → uses_of f k ≡ us → IsOnlyWith f call k
-        by_uses [] e = ByCall k call (none-listed f k e) at Itself
+        by_uses : (us : List Use) → uses_of f k ≡ us → Only k
+        by_uses [] e =
+            let unused = none-listed f k e in
+            ByCall k at.inner unused at.is
+            (inner_only (λ plain. plain_not ((regular.occs k occ is).unused unused ∙ ap (λ o. called_context regular.context block o) own_call ∙ plain_body block (regular.context at.inner) plain)))
         by_uses (u ∷ us) e =
             ByUses k u (λ of. or_none (owner_of of)) (use-of-listed f k u (subst (λ l. Has l u) (sym e) (record { index = 0; is = refl })))
             (λ of used. let o = owned of used in o.is ∙ ap (λ x. Some (or_none x)) (sym o.is))
-            (λ of used. let o = owned of used in subst (λ x. IsOnlyWith f call x) (ap (λ x. or_none x) (sym o.is)) o.only)
+            (λ of used. let o = owned of used in subst (λ x. Only x) (ap (λ x. or_none x) (sym o.is)) o.only)
 
   -- by height
   abbrev highest : ℕ
   highest = most_below well.heights.height (length f.occs)
 
-  upward : (n k : ℕ) (occ : Occ) → slice_get f.occs k ≡ Some occ → highest - well.heights.height k < n → MayLast (regular.context k) → call_of f k ≡ Some call → IsOnlyWith f call k
-  upward zero k occ is l may at = absurd (omega (arith, l))
-  upward (suc n) k occ is l may at =
-      only_with k occ is may at
-      (λ whole part may_whole at_whole.
-      let low = well.heights.parts whole k part.occ part.is part.part in
-      let most = below-most well.heights.height (length f.occs) whole (slice_get_within f.occs whole part.occ part.is) in
-      upward n whole part.occ part.is (omega (arith, l, low, most)) may_whole at_whole)
+  upward : (n k : ℕ) → IsThere f k → highest - well.heights.height k < n → (Plain k → ⊥) → CalledIn f call k → Only k
+  upward zero k there l not inside = absurd (omega (arith, l))
+  upward (suc n) k there l not inside =
+      only_with k there.0 there.1 not (called_in f call k inside)
+      (λ higher is low not_higher inside_higher.
+      let most = below-most well.heights.height (length f.occs) higher (slice_get_within f.occs higher is.0 is.1) in
+      upward n higher is (omega (arith, l, low, most)) not_higher inside_higher)
 
-  pub upwards : (k p : ℕ) → HasForm f k (Last p) → call_of f k ≡ Some call → IsOnlyWith f call k
-  upwards k p form at =
-      upward (suc (highest - well.heights.height k)) k form.0 form.1 (omega arith) (subst (λ x. IsAllowed (regular.context k) x) form.2 (regular.occs k form.0 form.1).allowed) at
+  last_only : (k p : ℕ) → HasForm f k (Last p) → CalledIn f call k → Only k
+  last_only k p form inside =
+      upward (suc (highest - well.heights.height k)) k (form.0, form.1) (omega arith)
+      (last_not_plain (regular.context k) p (subst (λ x. IsAllowed (regular.context k) x) form.2 (regular.occs k form.0 form.1).allowed)) inside
 
-pub lasts_are_kept : (f : FlatForm) → IsWellFormed f → IsMain f → IsRegular f → HasOwnLasts f → NamesOwn f → KeepsLasts f
-lasts_are_kept f well main regular own names k p call form at = upwards f well main regular names call k p form (own k p form ∙ at)
+pub lasts_are_kept : (f : FlatForm) → IsWellFormed f → IsMain f → IsRegular f → HasLastsInCopies f → KeepsLasts f
+lasts_are_kept f well main regular copies k p call form at = by there.0.call refl (uses_of f call) refl
+  where
+    inside : CalledIn f call k
+    inside = copies k p call form at
+
+    -- the call is an occurrence
+    there : IsThere f call
+    there = place_there f well p call at
+
+    outer_is : (own : Option ℕ) → there.0.call ≡ own → call_of f call ≡ own
+    outer_is own e = ap (option_and_then (λ (o : Occ). o.call)) there.1 ∙ e
+
+    by : (own : Option ℕ) → there.0.call ≡ own → (us : List Use) → uses_of f call ≡ us → IsOnlyWith f call k
+    by None e [] none = Outside k there.0 there.1 (none-listed f call none) (subst (λ o. IfSome o (λ outer. outer ≡ k)) (sym e) tt)
+    by None e (u ∷ us) some =
+        last_only f well main regular call (λ unused _. unused u (use-of-listed f call u (subst (λ l. Has l u) (sym some) (record { index = 0; is = refl })))) k p form inside
+    by (Some outer) e us _ =
+        last_only f well main regular call (λ unused none. let z : None ≡ Some outer = sym none ∙ outer_is (Some outer) e in let g : ⊥ = cc in g) k p form inside

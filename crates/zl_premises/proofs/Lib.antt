@@ -11,3 +11,4 @@ pub mod GuardLevels
 pub mod GuardRanks
 pub mod EntryRanks
 pub mod Whole
+pub mod CalmCopies

@@ -8,9 +8,10 @@ use Rattle.zl_meaning.proofs.LevelsOfRanks.{levels-of-ranks}
 use Rattle.zl_meaning.proofs.RanksOfLevels.{ranks-of-levels}
 use Rattle.zl_normal.specs.MainBlock.{IsMain}
 use Rattle.zl_normal.specs.Starts.{KeepsFlows}
-use Rattle.zl_premises.specs.Guards.{KeepsInits}
-use Rattle.zl_premises.specs.Lasts.{HasOwnLasts, NamesOwn}
-use Rattle.zl_premises.specs.Whole.{HasPremises}
+use Rattle.zl_normal.proofs.Runs.KeepsRuns.{normal_runs}
+use Rattle.zl_premises.specs.Lasts.{HasLastsInCopies}
+use Rattle.zl_premises.specs.Whole.{HasPremises, MainFormsKeepRuns}
+use Rattle.zl_premises.proofs.CalmCopies.{keeps_inits}
 use Rattle.zl_premises.proofs.GuardRanks.{ranks_give_guard_ranks}
 use Rattle.zl_premises.proofs.Grounded.{keeps_moving}
 use Rattle.zl_premises.proofs.Lasts.{lasts_are_kept}
@@ -34,9 +35,14 @@ grades_keep_flows f g form main grades slopes =
       derivatives = derivatives_narrow f g.occs form.formed main ranks slopes;
     }
 
-pub main_forms_have_premises : (f : FlatForm) (g : Grading) → IsGradable f → IsMain f → AreAllowed f g → HasDerivatives f g.occs → HasOwnLasts f → NamesOwn f → KeepsInits f → HasPremises f g
-main_forms_have_premises f g form main grades slopes own names inits = record {
-  guards = ranks_give_guard_ranks f form.formed main form.single form.regular.copies inits form.ranks;
-  lasts = lasts_are_kept f form.formed main form.regular own names;
+pub main_forms_have_premises : (f : FlatForm) (g : Grading) → IsGradable f → IsMain f → AreAllowed f g → HasDerivatives f g.occs → HasLastsInCopies f → HasPremises f g
+main_forms_have_premises f g form main grades slopes lasts = record {
+  guards = ranks_give_guard_ranks f form.formed main form.single form.regular.copies (keeps_inits f form.formed main form.regular) form.ranks;
+  lasts = lasts_are_kept f form.formed main form.regular lasts;
   flows = grades_keep_flows f g form main grades slopes;
 }
+
+pub main_forms_keep_runs : MainFormsKeepRuns
+main_forms_keep_runs f g names k N form main grades slopes lasts normal script suits =
+    let has = main_forms_have_premises f g form main grades slopes lasts in
+    normal_runs f g names k N script main form.single has.guards has.lasts normal form.formed has.flows suits

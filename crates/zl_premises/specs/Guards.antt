@@ -5,6 +5,7 @@ use Rattle.zl_meaning.specs.Uses.{BranchOf, ResetOf, StartOf, IsUse}
 use Rattle.zl_meaning.specs.Branches.{Under}
 use Rattle.zl_meaning.specs.Causality.{HasRanks}
 use Rattle.zl_meaning.specs.Copies.{KeepsCopies}
+use Rattle.zl_meaning.specs.Regular.{IsRegular}
 use Rattle.zl_meaning.specs.Single.{IsSingle}
 use Rattle.zl_meaning.specs.WellFormed.{IsWellFormed}
 use Rattle.zl_normal.specs.Evaluated.{HasGuardRanks}
@@ -24,3 +25,8 @@ KeepsInits f = (k b call : ℕ) → IsUse f k (StartOf (Some call) b) → IsUnde
 -- keeps its copies and its `init`s
 abbrev pub RanksGiveGuardRanks : Type 0
 RanksGiveGuardRanks = (f : FlatForm) → IsWellFormed f → IsMain f → IsSingle f → KeepsCopies f → KeepsInits f → HasRanks f → HasGuardRanks f
+
+-- a well-formed and regular form of the main block alone keeps its `init`s: an `init` stands in no combinatorial context, and
+-- branches, reset values and all that is called there are combinatorial
+abbrev pub RegularFormsKeepInits : Type 0
+RegularFormsKeepInits = (f : FlatForm) → IsWellFormed f → IsMain f → IsRegular f → KeepsInits f
