@@ -1,0 +1,9 @@
+pub mod Untested
+pub mod Totals
+pub mod Standing
+pub mod Givens
+pub mod Moments
+pub mod Ranked
+pub mod Idle
+pub mod Runs
+pub mod Initialised

@@ -1,0 +1,4 @@
+pub mod Initialised
+pub mod Levels
+pub mod MainForm
+pub mod Standing
